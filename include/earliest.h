@@ -66,7 +66,7 @@ enum earliest_number {
     EARLIEST_NO_SEARCH = 17,      /* the handle holds no search */
     EARLIEST_NO_SUCH_NODE = 18,   /* a number is not that of a node */
     EARLIEST_BEYOND_HORIZON = 19, /* a departure is beyond the horizon */
-    EARLIEST_NOT_ASKED = 20,      /* the last query asked for another node alone */
+    EARLIEST_NOT_ASKED = 20,      /* the last query asked for another node alone, or none asked for some nodes */
     EARLIEST_NO_WALKS = 21,       /* the last query found no walks */
     EARLIEST_NOT_REACHED = 22,    /* no walk reaches the node within the horizon */
     EARLIEST_LENGTHS_DIFFER = 23, /* lists that belong together have different lengths */
@@ -136,6 +136,15 @@ uint32_t earliest_search_arrivals(earliest_search *search, uint64_t *out, size_t
  * EARLIEST_NO_SEARCH, EARLIEST_NO_SUCH_NODE, EARLIEST_NOT_ASKED, EARLIEST_NO_WALKS, EARLIEST_NOT_REACHED, 13, where `out` and `count`
  * are as they were. */
 uint32_t earliest_search_walk(earliest_search *search, uint32_t node, uint32_t *out, size_t room, uint64_t *count);
+/* Searches from these nodes, each departing at its time, as one problem, for the nodes of `asked` alone, in any order, each as often as one
+ * likes: it ends when all of them are settled, so near nodes take a fraction of earliest_search_from. The first such query of a search takes
+ * another 20 bytes for each node of the road. It finds no walks, and leaves what the calls above read as it was. Refusals as for
+ * earliest_search_from, and EARLIEST_NO_SUCH_NODE for an asked node; after 13 earliest_search_answers may find that nothing was asked. */
+uint32_t earliest_search_asking(earliest_search *search, const uint32_t *nodes, size_t node_count, const uint64_t *departures, size_t departure_count, const uint32_t *asked, size_t asked_count);
+/* The earliest arrivals at the nodes of the last such query: `count` is their number, and each stands at its place in `asked`;
+ * EARLIEST_NEVER for one that no walk reaches. Refusals: EARLIEST_NO_SEARCH, EARLIEST_NOT_ASKED before the first such query,
+ * EARLIEST_ROOM_TOO_SMALL if `count` is another; `out` is as it was then. */
+uint32_t earliest_search_answers(earliest_search *search, uint64_t *out, size_t count);
 /* Lets a search go; `search` is EARLIEST_NOTHING then. With this header it returns a number, 0 or EARLIEST_BUSY. */
 void earliest_search_free(earliest_search *search);
 
@@ -194,6 +203,12 @@ static inline uint32_t earliest_search_arrivals_alone(earliest_search *search, u
 static inline uint32_t earliest_search_walk_alone(earliest_search *search, uint32_t node, uint32_t *out, size_t room, uint64_t *count) {
     EARLIEST_ALONE_(search, earliest_search_walk(search, node, out, room, count));
 }
+static inline uint32_t earliest_search_asking_alone(earliest_search *search, const uint32_t *nodes, size_t node_count, const uint64_t *departures, size_t departure_count, const uint32_t *asked, size_t asked_count) {
+    EARLIEST_ALONE_(search, earliest_search_asking(search, nodes, node_count, departures, departure_count, asked, asked_count));
+}
+static inline uint32_t earliest_search_answers_alone(earliest_search *search, uint64_t *out, size_t count) {
+    EARLIEST_ALONE_(search, earliest_search_answers(search, out, count));
+}
 static inline uint32_t earliest_search_new_until_alone(earliest_road *turned, uint32_t walks, earliest_search *search) {
     EARLIEST_ALONE_(search, earliest_search_new_until(turned, walks, search));
 }
@@ -221,6 +236,8 @@ static inline uint32_t earliest_search_free_alone(earliest_search *search) {
 #define earliest_search_arrival earliest_search_arrival_alone
 #define earliest_search_arrivals earliest_search_arrivals_alone
 #define earliest_search_walk earliest_search_walk_alone
+#define earliest_search_asking earliest_search_asking_alone
+#define earliest_search_answers earliest_search_answers_alone
 #define earliest_search_new_until earliest_search_new_until_alone
 #define earliest_search_until earliest_search_until_alone
 #define earliest_search_pair_until earliest_search_pair_until_alone

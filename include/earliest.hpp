@@ -370,6 +370,20 @@ public:
         }
         EARLIEST_DONE_;
     }
+    /// Searches from these starts, as one problem, for some nodes alone, and ends when they are settled. Writes the earliest arrivals at them, in
+    /// their order, into the caller's memory, which has a place for each; `never` for a node that no walk reaches. What arrival, arrivals and
+    /// walk read stays that of the last other query.
+    detail::returned<void> arrivals_at_into(list<start> starts, list<std::uint32_t> asked, room<std::uint64_t> out) {
+        EARLIEST_TEST_(out.size() == asked.size() ? 0u : std::uint32_t{EARLIEST_ROOM_TOO_SMALL}, earliest_fault{});
+        EARLIEST_TEST_(ask(starts, asked, out), earliest_fault{});
+        EARLIEST_DONE_;
+    }
+    /// The same as a list.
+    detail::returned<std::vector<std::uint64_t>> arrivals_at(list<start> starts, list<std::uint32_t> asked) {
+        std::vector<std::uint64_t> out(asked.size());
+        EARLIEST_TEST_(ask(starts, asked, room<std::uint64_t>(out)), earliest_fault{});
+        return out;
+    }
     /// The numbers of the arcs of a node's canonical walk; none if no walk reaches it within the horizon.
     detail::returned<std::optional<std::vector<std::uint32_t>>> walk(std::uint32_t node) {
         std::vector<std::uint32_t> out(256);
@@ -387,6 +401,14 @@ public:
 
 private:
     search() = default;
+    std::uint32_t ask(list<start> starts, list<std::uint32_t> asked, room<std::uint64_t> out) {
+        std::vector<std::uint32_t> nodes(1 + starts.size());
+        std::vector<std::uint64_t> departures(1 + starts.size());
+        for (std::size_t i = 0; i < starts.size(); i++) nodes[i] = starts[i].node, departures[i] = starts[i].departure;
+        std::uint32_t number = earliest_search_asking(&handle_, nodes.data(), starts.size(), departures.data(), starts.size(), asked.data(), asked.size());
+        std::uint64_t none = 0;
+        return number ? number : earliest_search_answers(&handle_, out.size() ? out.data() : &none, out.size());
+    }
     earliest_search handle_ = EARLIEST_NOTHING;
     std::uint32_t nodes_ = 0;
 };

@@ -267,8 +267,8 @@ class Road:
         """The matrix of earliest arrivals: uint64 with the shape (sources, nodes), NEVER for a node that is not reached within the horizon.
 
         `sources` is a list of nodes, `departures` a list of as many times, or one time for all, 0 if it is not given. The columns are the
-        nodes of the list `nodes`, or all nodes in the order of their numbers. One node in the place of a list takes its dimension away. The
-        rows are searched by `threads` threads, by default as many as there are processors, straight into NumPy's memory; without NumPy the
+        nodes of the list `nodes`, or all nodes in the order of their numbers. A search for few nodes ends when they are settled: up to 16 of
+        them, or up to a 64th of the road's. One node in the place of a list takes its dimension away. The rows are searched by `threads` threads, by default as many as there are processors, straight into NumPy's memory; without NumPy the
         result is a list of array.array("Q").
 
         `unit` is the unit of the road's times as NumPy writes it, as "s" or "10ms": then departures may be timedelta64, and the result is

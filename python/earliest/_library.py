@@ -37,6 +37,8 @@ CALLS = (
     ("search_arrival", _number, [_handle, _number, ctypes.POINTER(ctypes.c_uint64)]),
     ("search_arrivals", _number, [_handle, ctypes.c_void_p, _size]),
     ("search_walk", _number, [_handle, _number, ctypes.c_void_p, _size, ctypes.POINTER(ctypes.c_uint64)]),
+    ("search_asking", _number, [_handle, *[ctypes.c_void_p, _size] * 3]),
+    ("search_answers", _number, [_handle, ctypes.c_void_p, _size]),
     ("search_free", None, [_handle]),
     ("road_turned", _number, [_handle, _handle]),
     ("search_new_until", _number, [_handle, _number, _handle]),

@@ -15,6 +15,8 @@ MOST = 16
 """The most threads that search by default."""
 CHUNK = 64
 """How many pairs a thread takes at once."""
+FEW, FEWER = 16, 64
+"""Up to so many nodes, or up to this part of the network's, are asked for by searches that end when they are settled."""
 
 
 def processors() -> int:
@@ -76,11 +78,17 @@ def by_threads(parts: int, threads: Optional[int], worker: Callable[[], Callable
         raise raised[0]
 
 
+def are_few(chosen: int, nodes: int) -> bool:
+    """Whether searches for so many chosen nodes do better to end when these are settled."""
+    return chosen <= max(FEW, nodes // FEWER)
+
+
 def rows(road: Any, sources: Any, departures: Any, picks: Any, threads: Optional[int]):
     """The arrivals at all nodes, or at those of `picks`, one row for each source."""
     from ._searches import Search
 
     first_node, first_time = _numbers.address(sources), _numbers.address(departures)
+    few = picks is not None and are_few(len(picks), road.nodes)
 
     def begin():
         search, calls = Search(road, False), library()
@@ -89,9 +97,13 @@ def rows(road: Any, sources: Any, departures: Any, picks: Any, threads: Optional
             test(calls.earliest_search_from(search._handle, first_node + 4 * row, 1, first_time + 8 * row, 1))
             test(calls.earliest_search_arrivals(search._handle, _numbers.address(into), road.nodes))
 
-        return fill
+        def fill_few(row, into):
+            test(calls.earliest_search_asking(search._handle, first_node + 4 * row, 1, first_time + 8 * row, 1, _numbers.address(picks), len(picks)))
+            test(calls.earliest_search_answers(search._handle, _numbers.address(into), len(picks)))
 
-    return _each_row(len(sources), road.nodes, picks, threads, begin)
+        return fill_few if few else fill
+
+    return _each_row(len(sources), len(picks) if few else road.nodes, None if few else picks, threads, begin)
 
 
 def rows_until(road: Any, targets: Any, times: Any, picks: Any, threads: Optional[int]):

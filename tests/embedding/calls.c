@@ -136,6 +136,61 @@ static int four_nodes(const char *gr, size_t length) {
     return 0;
 }
 
+/* Queries for some nodes: arrivals in the order of the asked nodes, beside other queries of the same search, and each refusal. */
+static int asking(const char *gr, size_t length) {
+    earliest_road road = EARLIEST_NOTHING;
+    earliest_search search = EARLIEST_NOTHING, until = EARLIEST_NOTHING;
+    earliest_fault fault;
+    uint32_t nodes[2] = {1, 4}, asked[4] = {4, 2, 4, 1}, walk[3];
+    uint64_t departures[2] = {0, 1}, out[5] = {7, 7, 7, 7, 7}, arrival = 7, count = 7;
+    TEST(earliest_search_asking(&search, nodes, 1, departures, 1, asked, 4) == EARLIEST_NO_SEARCH && search.at == NULL);
+    TEST(earliest_search_answers(&search, out, 4) == EARLIEST_NO_SEARCH && out[0] == 7);
+    TEST(earliest_road_read(gr, length, "", 0, &road, &fault) == 0 && earliest_search_new(&road, 1, &search) == 0);
+    TEST(earliest_search_answers(&search, out, 4) == EARLIEST_NOT_ASKED && earliest_search_answers(&search, out, 0) == EARLIEST_NOT_ASKED && out[0] == 7);
+
+    TEST(earliest_search_asking(&search, nodes, 1, departures, 1, asked, 4) == 0 && earliest_search_answers(&search, out, 4) == 0);
+    TEST(out[0] == 6 && out[1] == 5 && out[2] == 6 && out[3] == 0 && out[4] == 7);
+    /* The other calls read what the last other query found, and the answers at asked nodes stay as other queries come. */
+    TEST(earliest_search_arrival(&search, 4, &arrival) == 0 && arrival == EARLIEST_NEVER);
+    TEST(earliest_search_from(&search, nodes + 1, 1, departures, 1) == 0 && earliest_search_pair(&search, 1, 0, 4) == 0);
+    TEST(earliest_search_answers(&search, out, 4) == 0 && out[0] == 6 && out[1] == 5 && out[2] == 6 && out[3] == 0);
+    TEST(earliest_search_asking(&search, nodes, 2, departures, 2, asked, 2) == 0);
+    TEST(earliest_search_walk(&search, 4, walk, 3, &count) == 0 && count == 3 && walk[0] == 2 && walk[1] == 3 && walk[2] == 4);
+    TEST(earliest_search_answers(&search, out, 2) == 0 && out[0] == 1 && out[1] == 5 && out[2] == 6);
+    TEST(earliest_search_asking(&search, nodes + 1, 1, departures, 1, asked, 2) == 0 && earliest_search_answers(&search, out, 2) == 0);
+    TEST(out[0] == 0 && out[1] == EARLIEST_NEVER);
+    out[0] = 7;
+    TEST(earliest_search_answers(&search, out, 1) == EARLIEST_ROOM_TOO_SMALL && earliest_search_answers(&search, out, 3) == EARLIEST_ROOM_TOO_SMALL && out[0] == 7);
+
+    /* A refused query leaves the answers of the one before. */
+    TEST(earliest_search_asking(&search, nodes, 1, departures, 2, asked, 2) == EARLIEST_LENGTHS_DIFFER);
+    TEST(earliest_search_asking(&search, nodes, 2, departures, 1, asked, 2) == EARLIEST_LENGTHS_DIFFER);
+    nodes[0] = 5;
+    TEST(earliest_search_asking(&search, nodes, 1, departures, 1, asked, 2) == EARLIEST_NO_SUCH_NODE);
+    nodes[0] = 1, departures[0] = EARLIEST_HORIZON + 1;
+    TEST(earliest_search_asking(&search, nodes, 1, departures, 1, asked, 2) == EARLIEST_BEYOND_HORIZON);
+    departures[0] = 0, asked[1] = 5;
+    TEST(earliest_search_asking(&search, nodes, 1, departures, 1, asked, 2) == EARLIEST_NO_SUCH_NODE);
+    asked[1] = 0;
+    TEST(earliest_search_asking(&search, nodes, 1, departures, 1, asked, 2) == EARLIEST_NO_SUCH_NODE);
+    TEST(earliest_search_answers(&search, out, 2) == 0 && out[0] == 0 && out[1] == EARLIEST_NEVER);
+
+    /* No nodes, no sources, and a search whose road was freed; a search for latest departures refuses both calls. */
+    TEST(earliest_search_asking(&search, nodes, 1, departures, 1, asked, 0) == 0 && earliest_search_answers(&search, out, 0) == 0);
+    TEST(earliest_search_answers(&search, out, 1) == EARLIEST_ROOM_TOO_SMALL);
+    asked[1] = 1;
+    TEST(earliest_search_asking(&search, nodes, 0, departures, 0, asked, 4) == 0 && earliest_search_answers(&search, out, 4) == 0);
+    TEST(out[0] == EARLIEST_NEVER && out[3] == EARLIEST_NEVER);
+    earliest_road turned = EARLIEST_NOTHING;
+    TEST(earliest_road_turned(&road, &turned) == 0 && earliest_search_new_until(&turned, 1, &until) == 0);
+    earliest_road_free(&road), earliest_road_free(&turned);
+    TEST(earliest_search_asking(&search, nodes, 1, departures, 1, asked, 1) == 0 && earliest_search_answers(&search, out, 1) == 0 && out[0] == 6);
+    TEST(earliest_search_asking(&until, nodes, 1, departures, 1, asked, 1) == EARLIEST_NO_SEARCH && earliest_search_answers(&until, out, 1) == EARLIEST_NO_SEARCH);
+    earliest_search_free(&search), earliest_search_free(&until);
+    TEST(earliest_search_answers(&search, out, 1) == EARLIEST_NO_SEARCH);
+    return 0;
+}
+
 /* Whether two roads have the same arrivals and walks from a node. */
 static int alike(earliest_road *one, earliest_road *other, uint32_t from) {
     earliest_road *roads[2] = {one, other};
@@ -239,7 +294,7 @@ static int many(const char *gr, size_t gr_length, const char *tp, size_t tp_leng
         uint32_t size = earliest_road_nodes(road);
         for (int i = 0; i < 4; i++) nodes[i] = (uint32_t)any(size), departures[i] = any(1000);
         uint32_t number = 0;
-        switch (word() % 40) {
+        switch (word() % 44) {
         case 0: number = earliest_road_read(gr, word() % 3 ? gr_length : word() % gr_length, tp, word() % 2 ? tp_length : word() % tp_length, road, &fault); break;
         case 1: earliest_road_free(road); break;
         case 2: earliest_search_free(search); break;
@@ -258,6 +313,9 @@ static int many(const char *gr, size_t gr_length, const char *tp, size_t tp_leng
         case 31: number = earliest_search_departures(search, all, word() % 2 ? size : word() % 4096); break;
         case 32: number = earliest_search_walk_until(search, nodes[0], out, word() % 65, &one); break;
         case 33: number = earliest_search_departure(search, nodes[0], &one); break;
+        case 34: case 35: number = earliest_search_asking(search, nodes, word() % 5, departures, word() % 5, nodes, word() % 5); break;
+        case 36: number = earliest_search_asking(search, nodes, 1, departures, 1, nodes, word() % 5); break;
+        case 37: number = earliest_search_answers(search, all, word() % 5); break;
         default: number = earliest_search_arrival(search, nodes[0], &one); break;
         }
         TEST(number <= 35);
@@ -435,7 +493,7 @@ int main(int count, char **words) {
     if (count != 4 && count != 5) return 2;
     size_t four_length, gr_length, tp_length;
     char *four = text_of(words[1], &four_length), *gr = text_of(words[2], &gr_length), *tp = text_of(words[3], &tp_length);
-    int failed = four_nodes(four, four_length) || latest(four, four_length) || of_lists() || no_lists() || many(gr, gr_length, tp, tp_length) || prepared() || long_path(count == 5 ? strtoul(words[4], NULL, 10) : 1000);
+    int failed = four_nodes(four, four_length) || asking(four, four_length) || latest(four, four_length) || of_lists() || no_lists() || many(gr, gr_length, tp, tp_length) || prepared() || long_path(count == 5 ? strtoul(words[4], NULL, 10) : 1000);
     free(four), free(gr), free(tp);
     return failed;
 }

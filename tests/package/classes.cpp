@@ -187,6 +187,25 @@ static void rows() {
     REFUSED(search.rows_into({1, 5}, {9}, one), EARLIEST_NO_SUCH_NODE, "a number is not that of a node (18 NoSuchNode)");
 }
 
+static void asked() {
+    const earliest::road road(FOUR);
+    earliest::search search(road);
+    search.from({{4, 0}});
+    TEST(search.arrivals_at({{1, 0}}, {4, 2, 4}) == (std::vector<std::uint64_t>{6, 5, 6}));
+    TEST(search.arrivals_at({{1, 0}, {4, 1}}, {4, 2}) == (std::vector<std::uint64_t>{1, 5}) && search.arrivals_at({{1, 0}}, {}).empty());
+    TEST(search.arrivals_at({{4, 9}}, {1, 4}) == (std::vector<std::uint64_t>{earliest::never, 9}));
+    TEST(!search.arrival(1) && search.walk(4) == std::vector<std::uint32_t>());
+    std::uint64_t out[2] = {7, 7};
+    search.arrivals_at_into({{1, 0}}, {3, 1}, earliest::room<std::uint64_t>(out, 2));
+    TEST(out[0] == 2 && out[1] == 0);
+    REFUSED(search.arrivals_at_into({{1, 0}}, {3}, earliest::room<std::uint64_t>(out, 2)), EARLIEST_ROOM_TOO_SMALL, "the room is not that of the result (24 RoomTooSmall)");
+    REFUSED(search.arrivals_at({{1, 0}}, {5}), EARLIEST_NO_SUCH_NODE, "a number is not that of a node (18 NoSuchNode)");
+    REFUSED(search.arrivals_at({{0, 0}}, {1}), EARLIEST_NO_SUCH_NODE, "a number is not that of a node (18 NoSuchNode)");
+    earliest::search moved(std::move(search));
+    REFUSED(search.arrivals_at({{1, 0}}, {1}), EARLIEST_NO_SEARCH, NO_SEARCH);
+    TEST(moved.arrivals_at({{1, 0}}, {4}) == std::vector<std::uint64_t>{6});
+}
+
 int main() {
     moves();
     searches();
@@ -194,5 +213,6 @@ int main() {
     texts();
     long_walks();
     rows();
+    asked();
     return failed;
 }

@@ -214,6 +214,11 @@ class Answers(Case):
                 picked = road.arrivals(sources, departures, nodes=nodes, threads=threads)
                 self.assertEqual([flat(row) for row in picked], [[row[node - 1] for node in nodes] for row in want])
             self.assertEqual(flat(road.arrivals(5, 33)), want[1])
+            few, many = [40, 2, 2, 17] * 4, [40, 2, 2, 17] * 4 + [1]
+            for chosen in (few, many):
+                picked = road.arrivals(sources, departures, nodes=chosen, threads=2)
+                self.assertEqual([flat(row) for row in picked], [[row[node - 1] for node in chosen] for row in want])
+            self.assertEqual([flat(row) for row in road.arrivals([1, 5], nodes=[])], [[], []])
             self.assertEqual(int(road.arrivals(5, 33, nodes=17)), want[1][16])
             self.assertEqual(flat(road.arrivals(sources, departures, nodes=17)), [row[16] for row in want])
         self.assertEqual(len(road.arrivals([])), 0)

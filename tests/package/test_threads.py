@@ -184,6 +184,21 @@ class OneRoad(Case):
             for row, source in zip(road.arrivals(sources, 100, threads=threads), sources):
                 self.assertTrue(bytes(row) == bytes(search.find(source, 100).arrivals))
 
+    def test_few_nodes_of_a_large_road(self):
+        """Near nodes are found by searches that end when they are settled: in a tenth of the time of the same with all nodes, and the arrivals
+        are those of whole searches."""
+        road = Large.road()
+        sources = [500 * 250 + at for at in range(1, 41)]
+        nodes = [source + 7 for source in sources]
+        found, times = {}, {}
+        for chosen in (nodes, None):
+            begun = time.thread_time()
+            found[chosen is None] = road.arrivals(sources, 100, nodes=chosen, threads=1)
+            times[chosen is None] = time.thread_time() - begun
+        for near, whole in zip(found[False], found[True]):
+            self.assertEqual(flat(near), [int(whole[node - 1]) for node in nodes])
+        self.assertLess(10 * times[False], times[True])
+
     def test_how_many_threads_search(self):
         """Each thread makes one search and no more, and there are as many as asked for, or as parts of the work."""
         from earliest import _threads

@@ -3,6 +3,7 @@ mod Handles
 mod Starting
 mod Telling
 mod Querying
+mod QueryingAt
 mod Asking
 mod Begun
 mod Judged

@@ -18,3 +18,7 @@ pub record AreDepartures (answer : Answered) (out : List ℕ) (count : ℕ) : Ty
 pub first_and_last : (nodes : ℕ) (target : Option ℕ) → IsAskedBy target 1 → IsAskedBy target nodes → (node : ℕ) → IsNode nodes node → IsAskedBy target node
 first_and_last nodes None first last node is = tt
 first_and_last nodes (Some target) first last node is = omega (arith, first, last, is.from_one, is.to_last)
+
+-- The first places have the labels of the nodes of a list.
+pub record AreAnswered (answer : Answered) (list out : List ℕ) (count : ℕ) : Type 0 where
+  pub each : (place : ℕ) → place < count → time_of (slice_index out place) ≡ arrival_of answer (slice_index list place)

@@ -4,6 +4,7 @@ pub mod Roads
 pub mod Sessions
 pub mod States
 pub mod Calls
+pub mod Asked
 pub mod Checks
 pub mod Lists
 pub mod Latest

@@ -1,6 +1,7 @@
 //! Searches of C: made, queried, and their answers.
 
 pub mod arrivals;
+pub mod asking;
 pub mod begin;
 pub mod departures;
 pub mod latest;

@@ -15,7 +15,7 @@ use ea_road::NONE;
 use std::alloc::Global;
 
 /// The label of an asked node: its arrival, or NONE.
-fn label_in(answer: &Answer, node: u32) -> u64
+pub(crate) fn label_in(answer: &Answer, node: u32) -> u64
     requires node { IsNode answer.now.nodes node }
     requires asked { IsAskedBy answer.now.target node }
     ensures { time_of result ≡ arrival_of answer.now node }

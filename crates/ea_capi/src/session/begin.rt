@@ -1,8 +1,9 @@
 //! Making and freeing searches.
 ghost use Rattle.std.specs.Prelude.{◌≡◌, IfErr, IfOk, IfSome, None, Some, nat_lt};
+ghost use Rattle.ea_capi.specs.Asked.{IsUnasked};
 ghost use Rattle.ea_capi.specs.Calls.{IsBegun, IsHeld, IsNew, IsThere};
 ghost use Rattle.ea_capi.specs.Prepared.{IsLedAlike, preparation_in};
-ghost use Rattle.ea_capi.specs.States.{road_in};
+ghost use Rattle.ea_capi.specs.States.{road_in, session_in};
 
 use crate::fault_numbers::{DONE, NO_ROAD, OUT_OF_MEMORY};
 use crate::handle::content::{Content, Session};
@@ -14,6 +15,7 @@ fn session_on(alloc: Global, content: &Content, walks: bool) -> Result<Option<Se
     ensures made { IfOk result (IsNew (road_in (Some content.now)) walks) }
     ensures led { IfOk result (λ made. IfSome made (λ it.
         it.share.prepared ≡ preparation_in (Some content.now))) }
+    ensures unasked { IfOk result (λ made. IfSome made (λ it. it.asked ≡ None)) }
     ensures refused { IfErr result (λ _. IsThere (road_in (Some content.now))) }
 {
     match content {
@@ -36,7 +38,7 @@ fn keep(alloc: Global, session: Session, handle: &mut Handle) -> u32
 }
 
 /// Makes a search on a road. If `walks` isn't 0 it has room for walks, and each query finds canonical walks
-/// too. Its arrays take about 40 bytes for each node, 60 with walks.
+/// too. Its arrays take about 40 bytes for each node, 60 with walks; from its first query for some nodes on, 20 more.
 ///
 /// The search has a share of the road, so the road may be freed before it. The handle `search` holds the
 /// search afterwards; its earlier content is freed. If the call doesn't return 0, the handle is unchanged.
@@ -51,6 +53,7 @@ pub extern "C" fn earliest_search_new(
     ensures begun { IsBegun (road_in road.old.value) (nat_lt 0 walks)
         search.old.value search.new.value result }
     ensures led { IsLedAlike road.old.value search.new.value result }
+    ensures unasked { IsUnasked (session_in search.new.value) result }
 {
     let Some(content) = road.take(alloc) else {
         return NO_ROAD;

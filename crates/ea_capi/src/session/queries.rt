@@ -90,7 +90,11 @@ pub extern "C" fn earliest_search_pair(
 }
 
 /// Sources from nodes and their departures.
-fn sources_of(alloc: Global, nodes: &[u32], departures: &[u64]) -> Result<Vec<Source>, AllocError>
+pub(crate) fn sources_of(
+    alloc: Global,
+    nodes: &[u32],
+    departures: &[u64],
+) -> Result<Vec<Source>, AllocError>
     requires { length nodes.now ≡ length departures.now }
     ensures { IfOk result (λ sources. sources.items ≡ starts nodes.now departures.now) }
 {
@@ -112,7 +116,7 @@ fn is_start(nodes: u32, source: Source) -> bool
 }
 
 /// Whether all sources are valid for this number of nodes.
-fn are_starts(nodes: u32, sources: &[Source]) -> bool
+pub(crate) fn are_starts(nodes: u32, sources: &[Source]) -> bool
     ensures { IsTrue result ↔ AreStarts nodes sources.now }
 {
     for source in sources {
@@ -125,7 +129,7 @@ fn are_starts(nodes: u32, sources: &[Source]) -> bool
 
 impl Session {
     /// Why sources are invalid for the road: the first refusal's number.
-    fn refusal_of(&self, sources: &[Source]) -> u32
+    pub(crate) fn refusal_of(&self, sources: &[Source]) -> u32
         ensures { result ≢ 0 }
     {
         for source in sources {

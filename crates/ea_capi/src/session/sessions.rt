@@ -1,5 +1,5 @@
 //! Searches: made on a road, and queried.
-ghost use Rattle.std.specs.Prelude.{◌≡◌, IfOk, length};
+ghost use Rattle.std.specs.Prelude.{◌≡◌, IfOk, None, length};
 ghost use Rattle.ea_road.specs.Queries.{IsProblem};
 ghost use Rattle.ea_capi.specs.Sessions.{IsAnswered, IsSame, IsStart};
 ghost use Rattle.ea_capi.specs.States.{road_of};
@@ -30,6 +30,7 @@ impl Session {
         ensures road { IfOk result (λ it. road_of it ≡ share.now.road) }
         ensures walks { IfOk result (λ it. it.walks ≡ walks) }
         ensures prepared { IfOk result (λ it. it.share.prepared ≡ share.now.prepared) }
+        ensures unasked { IfOk result (λ it. it.asked ≡ None) }
     {
         let share = share.again()?;
         let search = room(alloc, share.road().network.nodes(), walks)?;
@@ -37,6 +38,7 @@ impl Session {
             share,
             search,
             walks,
+            asked: None,
         })
     }
 
@@ -58,12 +60,14 @@ impl Session {
             share,
             search,
             walks,
+            asked,
         } = self;
         let search = share.find(alloc, search, query);
         Session {
             share,
             search,
             walks,
+            asked,
         }
     }
 
