@@ -1,9 +1,10 @@
-"""Latest departures on random small networks: beside a search at each departure of a window, and reports that
-are changed in every field."""
+"""Latest departures on random small networks: beside a search at each departure of a window, and reports, of
+arrivals too, that are changed in every field and line, beside the verdicts of a plain checker."""
 import os
 import random
 import tempfile
 
+import judging
 import travel_times
 
 
@@ -56,15 +57,6 @@ def driven(arcs, kinds, lines, targets):
     return all(ends.get(node, at == "none") for node, at in left.items())
 
 
-def changed(lines):
-    """The lines with one field changed, each field of each line in turn."""
-    for place, line in enumerate(lines):
-        fields = line.split()
-        for at in range(1, len(fields)):
-            other = str(int(fields[at]) + 1) if fields[at].isdigit() else "0"
-            yield lines[:place] + [" ".join([*fields[:at], other, *fields[at + 1 :]])] + lines[place + 1 :]
-
-
 def at_random(files, count=30):
     """Random networks with timetables, and targets with their times."""
     words = random.Random(20261128)
@@ -97,9 +89,16 @@ def at_random(files, count=30):
         if joint or len(targets) == 1:
             yield f"walks of {name}", (status, driven(arcs, table.kinds, lines, targets)), (0, True)
         yield f"check of walks of {name}", files.run(f"check gr ss report {options}", report=walks, **texts), (0, "ok\n", "")
-        for other in changed(lines) if done <= 6 else ():
-            was = files.run(f"check gr ss report {options}", report="\n".join(other) + "\n", **texts)
-            yield f"changed report {other} of {name}", was[0], 5
+        if done <= 3 or 4 <= size and done <= 12:
+            problems = [targets] if joint else [[target] for target in targets]
+            for turned, report_of in ((True, walks), (False, files.run(f"run gr ss {options.replace('arrives', 'departs')} --walks", **texts)[1])):
+                question = judging.Question(nodes, arcs, table.kinds, turned)
+                asks = options if turned else options.replace("arrives", "departs")
+                right = report_of.splitlines()
+                others = [*judging.with_other_walks(question, right), *judging.with_other_times(right, ["none" if turned else "inf", *range(0, 61, 4)])]
+                for other in others + (list(judging.changed(right)) if done <= 3 else []):
+                    was = files.run(f"check gr ss report {asks}", report="".join(line + "\n" for line in other))
+                    yield f"changed report {other} of {name}", was, judging.verdict(question, problems, other)
 
 
 def results(program):
