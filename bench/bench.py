@@ -91,6 +91,7 @@ class Bench:
         self.turns("pairs", programs.pairs(self.built, network, 10_000 if network.nodes >= 1_000_000 else 1_000), rounds)
         self.turns("asked", programs.asked(self.built, network, 1_000), rounds)
         if network.nodes <= 1_000_000:
+            self.turns("directions", programs.directions(self.built, network), rounds, same=False)
             texts = network.scatter(self.built)
             self.turns("scattered", programs.scattered(self.built, network, texts, 1), rounds)
             self.turns("scattered", programs.scattered(self.built, network, texts, 64), min(3, rounds))

@@ -63,6 +63,13 @@ ASKED = """## Asked nodes
 searches end when all asked nodes are settled. Whole runs.
 """
 
+DIRECTIONS = """## Latest departures, and travel times by functions
+
+16 sources by one thread: arrivals after 2,520,000, and latest departures that are in time then (`--arrive`), for which the network is
+turned round. Reading is that of a run without sources; a search is a sixteenth of what the other run takes longer, with writing its
+report. With points a third of the arcs have one of 200 functions through 96 points each.
+"""
+
 SCATTERED = """## Scattered numbers
 
 The same network and sources, numbered as they were made and at random; plain weights, whole runs. The base is the network as it was made.
@@ -228,6 +235,28 @@ def asked(rows, rounds):
     return out
 
 
+def directions(rows, rounds):
+    """Reading and searching, forward and turned round, with each sort of travel times."""
+    out = [DIRECTIONS, "| nodes | travel times | reading s | turned s | ratio | a search s | turned s | ratio | of plain | by hand s | rounds |", "|" + "---|" * 11]
+    found = groups(rows, "seconds")
+    for nodes in sorted({at[1] for at in found}):
+        plain = None
+        for kind, name in (*KINDS.items(), ("points", "points")):
+            read, run = {}, {}
+            for way in ("arrivals", "latest departures"):
+                these = [found.get((f"{kind}, {way}", nodes, count), {}).get((OURS, 1)) for count in (0, 16)]
+                if None not in these:
+                    read[way], run[way] = these[0].middle, (these[1].middle - these[0].middle) / 16
+            if len(run) < 2:
+                continue
+            forward, turned = run["arrivals"], run["latest departures"]
+            plain = plain or forward
+            by_hand = found.get((f"{kind}, arrivals", nodes, 16), {}).get((BASE, 1))
+            cells = [f"{nodes:,}", name, seconds(read["arrivals"]), seconds(read["latest departures"]), f"{read['latest departures'] / read['arrivals']:.2f}", seconds(forward), seconds(turned), f"{turned / forward:.2f}", f"{forward / plain:.2f}", seconds(by_hand.middle / 16) if by_hand else "", str(rounds((f"{kind}, arrivals", nodes, 16)))]
+            out.append("| " + " | ".join(cells) + " |")
+    return [*out, ""]
+
+
 def scattered(rows, rounds):
     """The times on a network numbered at random beside those on the network as it was made."""
     out = [SCATTERED, "| nodes | problems | program | threads | as made s | at random s | ratio | rounds |", "|" + "---|" * 8]
@@ -330,7 +359,7 @@ def rounds_of(rows):
 def main():
     whole, many, paired, checked = (rows_of(name) for name in ("whole", "problems", "pairs", "check"))
     text = head(machine())
-    parts = (runs, whole), (patterns, rows_of("patterns")), (problems, many), (pairs, paired), (asked, rows_of("asked")), (scattered, rows_of("scattered")), (checks, checked)
+    parts = (runs, whole), (patterns, rows_of("patterns")), (problems, many), (pairs, paired), (asked, rows_of("asked")), (directions, rows_of("directions")), (scattered, rows_of("scattered")), (checks, checked)
     for part, rows in parts:
         if rows:
             text += part(rows, rounds_of(rows))

@@ -1,5 +1,6 @@
 """The programs of the bench: how they are built, and the words with which they are run."""
 import os
+import random
 import shutil
 import subprocess
 import sys
@@ -109,8 +110,20 @@ class Network:
             subprocess.run([programs.hand, "scatter", self.gr, sources, texts[0], out], check=True)
         return {**found, "at random": tuple(texts)}
 
+    def make_points(self, steps=96, day=8_640_000):
+        """Functions through points for the arcs that have traffic patterns, as many points as these have steps. None falls as quickly as
+        time passes, so a later departure arrives no earlier."""
+        words = random.Random(20261128)
+        with open(self.tp("patterns"), encoding="ascii") as file, open(self.tp("points"), "w", encoding="ascii") as out:
+            for line in file:
+                if line.startswith("k "):
+                    out.write(f"k {line.split()[1]} points {day} {steps}\n")
+                    out.writelines(f"v {day // steps * at} {words.randrange(3_000)}\n" for at in range(steps))
+                elif not line.startswith("v "):
+                    out.write(line)
+
     def tp(self, kind):
-        return {"plain": self.none, "timetables": f"{self.base}.tp", "patterns": f"{self.base}.patterns.tp"}[kind]
+        return {"plain": self.none, "timetables": f"{self.base}.tp", "patterns": f"{self.base}.patterns.tp", "points": f"{self.base}.points.tp"}[kind]
 
     def words(self, kind):
         """The words for timetables, for our program and for those in plain Rust."""
@@ -188,6 +201,28 @@ def asked(programs, network, sources):
     for threads in (1, 4):
         words = [EARLIEST, "run", network.gr, network.near, "--nodes", network.asked, "--depart", str(DEPART), *by_one(threads)]
         jobs.append(Job(*at, "earliest", threads, sources, words, out, True))
+    return jobs
+
+
+def directions(programs, network):
+    """16 sources by one thread, and none, forward and turned round, with each sort of travel times; in plain Rust forward alone."""
+    out, jobs = programs.at("out.report"), []
+    nobody, some = f"{network.base}.nobody.ss", f"{network.base}.some.ss"
+    with open(network.many, encoding="ascii") as file:
+        sources = file.readlines()[1:17]
+    for name, lines in ((nobody, []), (some, sources)):
+        with open(name, "w", encoding="ascii") as file:
+            file.writelines([f"p aux sp ss {len(lines)}\n", *lines])
+    network.make_points()
+    for kind in ("plain", "timetables", "patterns", "points"):
+        ours, tp = network.words(kind)
+        for turned, asks in ((False, "--depart"), (True, "--arrive")):
+            for count, file in ((0, nobody), (16, some)):
+                words = [EARLIEST, "run", network.gr, file, *ours, asks, str(DEPART), *by_one(1)]
+                jobs.append(Job(f"{kind}, {'latest departures' if turned else 'arrivals'}", network.nodes, "earliest", 1, count, words, out, True))
+        if kind != "points":
+            words = [programs.hand, "several", "heap", network.gr, some, tp, str(DEPART), "1", out]
+            jobs.append(Job(f"{kind}, arrivals", network.nodes, BASE, 1, 16, words, out))
     return jobs
 
 
