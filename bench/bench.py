@@ -151,6 +151,7 @@ def main():
         bench.of_network(network)
     bench.python()
     bench.said("matrix", "numpy")
+    bench.said("asked_matrix", "numpy", "--scratch", options.scratch)
     bench.said("serve", "aiohttp", "--page", "--soak", "100000")
     if not options.no_traps:
         traps.measured(options.scratch, 60, min(3, options.rounds))

@@ -93,6 +93,11 @@ SAID = {
 64 sources on a grid of 10^6 nodes by four threads into NumPy's memory (`bench/matrix.py`), beside the program's own run into the null
 device; seconds, the middle of five rounds.
 """,
+    "asked_matrix": """## A matrix of asked nodes from Python
+
+1,000 sources and 1,000 nodes among the 5,000 nearest to one, on the road-like network of 10^6 nodes (`bench/asked_matrix.py`): searches that
+end when all asked nodes are settled, beside the same in plain Rust; least, middle and greatest of three rounds.
+""",
     "serve": """## Over HTTP
 
 `python -m earliest serve` on a grid of 10^5 nodes with a morning rush (`bench/serve.py`), asked by wrk for random pairs; the page in
