@@ -17,23 +17,46 @@ import argparse
 import sys
 
 from .importing import writing
-from .importing.feeds import DAY, Calls, Feed, Stops, date_of, services
+from .importing.feeds import DAY, Calls, Feed, Stops, date_of, nearest_day, services
 from .importing.legs import legs_command
 from .importing.telling import Refused, Summary, ended
 from .importing.timetable import Timetable, Transfers
-from .importing.transit_files import Files
+from .importing.transit_files import ADVICE, Files
+
+
+def chosen(text, other, wanted):
+    """Whether a selection has a text or another one; an empty selection has all."""
+    return not wanted or text in wanted or other in wanted
+
+
+def when(feed, asked):
+    """For a refusal: the days of a feed's calendar, and the nearest on which a trip that is asked for runs."""
+    span, wanted, types = services(feed, asked.first, 1, 0)[1], set(asked.routes or ()), set(asked.types or ())
+    if not span:
+        return "; its calendar is empty"
+    routes = {route for _, (route, kind, short, long) in feed.rows("routes.txt") if chosen(route, short or long or route, wanted) and chosen(kind, None, types)}
+    services_of = {service for _, (_, route, service, _, _) in feed.rows("trips.txt") if route in routes}
+    near = nearest_day(feed, services_of, asked.first, span)
+    if near == asked.day:
+        return ""
+    return f"; its calendar goes from {span[0]} to {span[1]}, " + (f"and the nearest day on which one runs is {near}" if near else "but none runs then")
 
 
 def trips_that_run(feed, asked, summary):
     """Trips of the routes that were asked, with their route and the days that they run on."""
-    runs, span = services(feed, asked.first, asked.days, asked.back)
+    runs, _ = services(feed, asked.first, asked.days, asked.back)
     names, kinds = {}, {}
     for _, (route, kind, short, long) in feed.rows("routes.txt"):
+        if route in names:
+            summary.leave("lines of routes.txt for a route that was there before; the first one holds", route)
+            continue
         names[route], kinds[route] = short or long or route, kind
     wanted, types = set(asked.routes or ()), set(asked.types or ())
     for name in wanted:
         if name not in names and name not in names.values():
             raise Refused(f"{feed.path} has no route {name!r}")
+    for kind in sorted(types - set(kinds.values())):
+        raise Refused(f"{feed.path} has no route of the route_type {kind}; it has {', '.join(sorted(set(kinds.values())))}")
     numbers, trips, blocks = {}, [], 0
     for line, (trip, route, service, sign, block) in feed.rows("trips.txt"):
         if service not in runs:
@@ -42,7 +65,7 @@ def trips_that_run(feed, asked, summary):
         if route not in names:
             summary.leave("trips of a route that routes.txt doesn't have", trip)
             continue
-        if (wanted and route not in wanted and names[route] not in wanted) or (types and kinds[route] not in types):
+        if not (chosen(route, names[route], wanted) and chosen(kinds[route], None, types)):
             summary.leave("trips of other routes, as asked")
             continue
         if trip in numbers:
@@ -51,24 +74,41 @@ def trips_that_run(feed, asked, summary):
         trips.append((trip, route, sign, runs[service]))
         blocks += bool(block)
     if not trips:
-        told = f"its calendar goes from {span[0]} to {span[1]}" if span else "its calendar is empty"
-        raise Refused(f"no trip of {feed.path} that is asked for runs on {asked.day}; {told}")
+        raise Refused(f"no trip of {feed.path} that is asked for runs on {asked.day}{when(feed, asked)}")
     if blocks:
         summary.note("who stays seated where a vehicle goes on as another trip (block_id) is taken as changing")
     return numbers, trips, names
 
 
+def clocks_told(feed, summary):
+    """Says of which time zone the times are, and which others are lost."""
+    zones = {}
+    for _, (zone, agency) in feed.rows("agency.txt"):
+        zones.setdefault(zone, agency)
+    if zones:
+        first, *others = zones
+        summary.note(f"times are those of {first or 'a time zone that agency.txt leaves out'}")
+        for zone in others:
+            summary.leave(f"time zones of agencies beside {first}: their times are taken as of {first}", f"{zone}: {zones[zone]}")
+
+
 def frequencies_of(feed, numbers, summary):
-    found = {}
+    found, count = {}, 0
     for line, (trip, start, end, headway, exact) in feed.rows("frequencies.txt"):
         if trip not in numbers:
             continue
         first, last = (feed.seconds("frequencies.txt", line, column, text) for column, text in (("start_time", start), ("end_time", end)))
         if first < 0 or last <= first:
             raise feed.fault("frequencies.txt", line, "start_time is not before end_time")
+        if exact not in ("", "0", "1"):
+            raise feed.fault("frequencies.txt", line, f"exact_times is {exact!r}, and 0 or 1 is wanted")
+        headway = feed.number("frequencies.txt", line, "headway_secs", headway, None, 1)
+        count += -(-(last - first) // headway)
+        if count > MOST_HEADWAYS:
+            raise feed.fault("frequencies.txt", line, f"more than {MOST_HEADWAYS} departures by headways are needed here; {ADVICE}")
         if exact != "1":
             summary.take("headways without exact times, taken as departures from their start_time on")
-        found.setdefault(numbers[trip], []).append((first, last, feed.number("frequencies.txt", line, "headway_secs", headway, None, 1)))
+        found.setdefault(numbers[trip], []).append((first, last, headway))
     summary.take("trips by headways", len(found))
     return found
 
@@ -96,6 +136,8 @@ def add_runs(table, number, trip, route, calls, shifts, asked, summary):
         summary.leave("trips that don't run on the days asked")
 
 
+MOST_DAYS, MOST_HEADWAYS = 1_000, 10_000_000
+"""Of days asked, and of departures by headways: what a command may take of time and memory."""
 USUAL = {"days": 1, "back": 2, "unit": "hundredths", "change": 0, "stations": None, "walk": None, "pace": 1.2, "detour": 1.3, "streets": None, "routes": None, "types": None, "box": None, "starts": (), "goals": ()}
 """What is asked if nobody says otherwise."""
 
@@ -106,6 +148,7 @@ def convert(path, day, name, **options):
     asked.first = date_of(day)
     feed = Feed(path, summary)
     with writing.Outputs(name) as out:
+        clocks_told(feed, summary)
         stops = Stops(feed, asked.box, summary)
         numbers, trips, names = trips_that_run(feed, asked, summary)
         headways = frequencies_of(feed, numbers, summary)
@@ -119,7 +162,7 @@ def convert(path, day, name, **options):
         calls = None
         table.chains()
         if not table.hops:
-            raise Refused(f"no trip of {path} is left that can be boarded and left on {day}")
+            raise Refused(f"no trip of {path} is left that can be boarded and left on {day}{summary.reasons()}{when(feed, asked)}")
         Files(out, path, table, trips, names, asked, summary).write()
         if feed.files & {"pathways.txt"}:
             summary.leave("tables pathways.txt, not looked at")
@@ -147,11 +190,11 @@ def _checked(call):
     return convert_text
 
 
-def _least(least, kind=int):
+def _least(least, kind=int, most=10**9):
     def number(text):
         value = kind(text)
-        if not least <= value < 1e9:
-            raise ValueError(f"{text} is out of range: at least {least} is wanted")
+        if not least <= value <= most:
+            raise ValueError(f"{text} is out of range: {least} to {most} is wanted")
         return value
     return _checked(number)
 
@@ -163,8 +206,8 @@ def command(words):
     asked.add_argument("feed", help="a folder or a zip; `legs` is a command of its own")
     asked.add_argument("day", type=_checked(lambda text: date_of(text) and text), help="the first day, as 20261123")
     asked.add_argument("name", help="NAME of the files that are written")
-    asked.add_argument("--days", type=_least(1), default=USUAL["days"], help="how many days (default: 1)")
-    asked.add_argument("--back", type=_least(0), default=USUAL["back"], help="how many days before are looked at for trips that go on beyond midnight (default: 2)")
+    asked.add_argument("--days", type=_least(1, most=MOST_DAYS), default=USUAL["days"], help="how many days (default: 1)")
+    asked.add_argument("--back", type=_least(0, most=MOST_DAYS), default=USUAL["back"], help="how many days before are looked at for trips that go on beyond midnight (default: 2)")
     writing.add_unit(asked)
     asked.add_argument("--change", type=_least(0), default=USUAL["change"], metavar="SECONDS", help="the least time of a change at a stop; transfers.txt may say otherwise for a stop (default: 0)")
     asked.add_argument("--stations", type=_least(1), metavar="SECONDS", help="the time from any stop of a station to any other one of it, if transfers.txt doesn't tell one (default: none)")

@@ -178,7 +178,10 @@ def services_of_days(room):
         yield f"trips that don't run on {day} are told", summary_has(told, "trips that don't run"), True
     put(room, "feed", feed.files())
     *told, reason = refused("gtfs", room, os.path.join(room, "feed"), "20270301", os.path.join(room, "none"))
-    yield "refused: a day without trips", (*told, "from 20250101 to 20261231" in reason), (True, True, [], True)
+    yield "refused: a day without trips, with the nearest that has one", (*told, "from 20250101 to 20261231" in reason and "nearest day on which one runs is 20261231" in reason), (True, True, [], True)
+    for day, near in (("20261125", "20261124"), ("20240101", "20250101"), ("99991231", "20261231")):
+        *told, reason = refused("gtfs", room, os.path.join(room, "feed"), day, os.path.join(room, "none"), "--routes", "2" if day < "2026" else "1" if day > "2027" else "3")
+        yield f"refused: {day} without trips of a line, with the nearest that has one", (*told, f"runs is {near}" in reason), (True, True, [], True)
     only_dates = Feed({"fair": trips["fair"]}, {}, exceptions=[("fair", "20261124", 1)])
     files = only_dates.files()
     del files["calendar.txt"]
@@ -355,7 +358,7 @@ def selection(room):
     imported(room, Feed({"a": ("1", "all", line("A", "B", "C", "D", "E", start=7 * 3600))}), "--box", "8.01,46,8.05,48", "--change", "60")
     yield "a box, and nodes on board outside it", compared(room, "net", Feed({"a": ("1", "all", line("A", "B", "C", "D", "E", start=7 * 3600))}), "20261123", "BC", (0,), dict.fromkeys(STOPS, 60), only=lambda it: it[2] in "BC" and it[3] in "BC"), "all"
     imported(room, feed, "--routes", "1")
-    for words, part in ((["--routes", "9"], "no route '9'"), (["--types", "7"], "no trip"), (["--box", "0,0,1,1"], "is left")):
+    for words, part in ((["--routes", "9"], "no route '9'"), (["--types", "7"], "no route of the route_type 7; it has 3"), (["--box", "0,0,1,1"], "is left")):
         *told, reason = refused("gtfs", room, os.path.join(room, "feed"), "20261123", os.path.join(room, "none"), *words)
         yield f"refused: {words}", (*told, part in reason), (True, True, [], True)
 
@@ -528,6 +531,95 @@ def seconds_as_unit(room):
         yield f"examples/gtfs/monday{end} is what the importer writes", text(room, "monday" + end), text(os.path.join(ROOT, "examples", "gtfs"), "monday" + end)
 
 
+def written_as_floats(room):
+    """Whole numbers and codes as spreadsheets and data frames write them, 1.0, mean what they mean without the fraction."""
+    trips = {"a": ("1", "week", line("A", "B", "C", "D", start=7 * 3600, bans={1: (1, 0), 2: (0, 1)})), "b": ("1", "week", [(9, "A", 28000, 28000, "", ""), (10, "C", 29000, 29000, "", ""), (11, "E", 30000, 30000, "", "")]), "c": ("2", "fair", line("C", "F", start=28800))}
+    feed = Feed(trips, {"week": ("1000000", "20260101", "20261231")}, transfers=[("C", "E", 2, 240), ("B", "B", 2, 120)], frequencies=[("a", 7 * 3600, 8 * 3600, 600)], exceptions=[("fair", "20261123", 1), ("week", "20261116", 2)])
+    files = {}
+    for name, contents in feed.files().items():
+        head, *lines = list(csv.reader(io.StringIO(contents)))
+        kept = [place for place, column in enumerate(head) if column in (*WEEK, "exception_type", "stop_sequence", "pickup_type", "drop_off_type", "route_type", "transfer_type", "min_transfer_time", "headway_secs", "exact_times")]
+        files[name] = rows(head, [[f"{cell}.0" if place in kept and cell else cell for place, cell in enumerate(row)] for row in lines])
+    files["stops.txt"] = "\r\n".join(row + (",location_type" if not place else ",0.0") for place, row in enumerate(files["stops.txt"].split("\r\n")[:-1])) + "\r\nS,Station,47.0,8.0,1.0\r\n"
+    put(room, "floats", files)
+    good("gtfs", os.path.join(room, "floats"), "20261123", os.path.join(room, "net"), "--types", "3")
+    yield "numbers with a fraction of zeros", compared(room, "net", feed, "20261123", "ABCE", TIMES + (28000, 28800), {"B": 120}, {("C", "E"): 240}), "all"
+    yield "a station stays a station", "S" in places(room, "net")[0], False
+
+
+def files_of_a_feed(room):
+    """Byte order marks, ends of lines, quoted lines, empty tables; zips that were made on a Mac, with several feeds, with zips inside."""
+    feed = Feed({"a": ("1", "all", line("A", "B", "C", start=7 * 3600))}, transfers=[("A", "C", 2, 5000)])
+    files = feed.files()
+    for name, changed in (
+        ("byte order marks", {key: "\ufeff" + it for key, it in files.items()}),
+        ("LF", {key: it.replace("\r\n", "\n") for key, it in files.items()}),
+        ("CR", {key: it.replace("\r\n", "\r") for key, it in files.items()}),
+        ("a quoted name of two lines", {**files, "stops.txt": files["stops.txt"].replace("Stop A", '"Stop\r\nA, or ""B"""')}),
+        ("tables that are empty", {**files, "frequencies.txt": "", "calendar_dates.txt": "", "agency.txt": ""}),
+    ):
+        put(room, "changed", changed)
+        told = good("gtfs", os.path.join(room, "changed"), "20261123", os.path.join(room, "net"))
+        yield f"a feed with {name}", compared(room, "net", feed, "20261123", "ABC", TIMES, walks={("A", "C"): 5000}), "all"
+    yield "empty tables are told", [summary_has(told, f"{name} is empty") for name in ("frequencies.txt", "calendar_dates.txt", "agency.txt")], [True] * 3
+
+    def zipped(title, entries):
+        path = os.path.join(room, title + ".zip")
+        with zipfile.ZipFile(path, "w") as packed:
+            for name, contents in entries:
+                packed.writestr(name, contents)
+        return path
+
+    path = zipped("mac", [*(("__MACOSX/town/._" + name, "x") for name in files), *(("town/" + name, it) for name, it in files.items())])
+    good("gtfs", path, "20261123", os.path.join(room, "net"))
+    yield "a zip made on a Mac", compared(room, "net", feed, "20261123", "ABC", TIMES, walks={("A", "C"): 5000}), "all"
+    whole = zipped("whole", files.items())
+    with open(whole, "rb") as file:
+        later = bytearray(file.read())
+    place = later.rfind(b"PK\x01\x02")
+    later[place + 6] = 200  # the version that the last entry wants
+    for name, path, part in (
+        ("a zip of a later version", put(room, "later.zip", bytes(later)), "can't be unpacked"),
+        ("a zip of two feeds", zipped("two", ((folder + name, it) for folder in ("bus/", "rail/") for name, it in files.items())), "2 feeds; unpack it and give one of the folders: bus, rail"),
+        ("a zip of zips", zipped("zips", [("1/google_transit.zip", b"PK")]), "such as 1/google_transit.zip"),
+    ):
+        *told, reason = refused("gtfs", room, path, "20261123", os.path.join(room, "out"))
+        yield f"refused: {name}", (*told, part in reason), (True, True, [], True)
+    with zipfile.ZipFile(os.path.join(room, "feed.zip"), "w", zipfile.ZIP_DEFLATED) as packed:
+        for name, contents in files.items():
+            packed.writestr(name, contents * 100)
+    with open(os.path.join(room, "feed.zip"), "rb") as file:
+        packed = file.read()
+    wrong = []
+    for seed in range(60):
+        draw, bytes_ = random.Random(seed), bytearray(packed)
+        for _ in range(draw.choice((1, 3, 20))):
+            bytes_[draw.randrange(len(bytes_))] = draw.randrange(256)
+        told = refused("gtfs", room, put(room, "damaged.zip", bytes(bytes_)), "20261123", os.path.join(room, "out"))
+        wrong += [(seed, told)] if told[:3] != (True, True, []) else []
+    yield "damaged zips are refused", wrong, []
+
+
+def told_of_tables(room):
+    """What is odd in a feed's tables and is taken all the same is in the summary."""
+    feed = Feed({"a": ("1", "all", line("A", "B", "C", start=7 * 3600)), "empty": ("1", "all", [])}, transfers=[("A", "B", 0, 300)], exceptions=[("all", "20261123", 2), ("all", "20261123", 1)])
+    files = feed.files()
+    files["agency.txt"] += "y,Y,https://y.example,Europe/London\r\n"
+    files["routes.txt"] += "1,again,3\r\n"
+    files["calendar.txt"] += "all,0,0,0,0,0,0,1,20260101,20261231\r\nback,1,1,1,1,1,1,1,20261231,20260101\r\n"
+    files["stops.txt"] = files["stops.txt"].replace("stop_lon", "stop_lon,location_type") + "E1,Entrance,47,8,2\r\n"
+    put(room, "odd", files)
+    told = good("gtfs", os.path.join(room, "odd"), "20261123", os.path.join(room, "net"))
+    for part in ("times are those of Europe/Berlin", "1 time zones of agencies beside Europe/Berlin: their times are taken as of Europe/Berlin (Europe/London: Y)", "1 lines of routes.txt for a route that was there before", "1 further lines of calendar.txt for a service",
+                 "1 services that calendar_dates.txt both adds and removes on a day asked; the last line holds (all on 20261123)", "1 services that end before they begin (back)", "1 entrances, crossings and boarding areas of stations, not looked at (E1)",
+                 "1 trips without calls in stop_times.txt (empty)", "1 least times of transfers that aren't of type 2"):
+        yield f"told: {part}", summary_has(told, part), True
+    yield "the first line of a route holds", table(room, "net.trips.csv")[0]["line"], "line 1"
+    put(room, "none", {**feed.files(), "stop_times.txt": feed.files()["stop_times.txt"].replace("a,7:", "b,7:")})
+    *told, reason = refused("gtfs", room, os.path.join(room, "none"), "20261123", os.path.join(room, "out"))
+    yield "refused: no trip with calls, and why", (*told, "left out were 2 trips without calls in stop_times.txt" in reason), (True, True, [], True)
+
+
 def hostile(room):
     feed = Feed({"a": ("1", "all", line("A", "B", "C", start=7 * 3600))})
     files = feed.files()
@@ -563,17 +655,31 @@ def hostile(room):
         ("a start and no stop of the name", whole, ["--from", "nowhere"], "no stop 'nowhere'"),
         ("a day that is none", whole, ["20261323"], "calendar"),
         ("a date in the calendar that is none", put(room, "f10", {**files, "calendar.txt": files["calendar.txt"].replace("20260101", "2026-1-1")}), [], "2026-1-1"),
+        ("a sequence that isn't whole", put(room, "f11", {**files, "stop_times.txt": files["stop_times.txt"].replace(",B,2,", ",B,2.5,")}), [], "'2.5'"),
+        ("a sequence beyond 64 bits", put(room, "f12", {**files, "stop_times.txt": files["stop_times.txt"].replace(",B,2,", ",B,99999999999999999999,")}), [], "'99999999999999999999'"),
+        ("a code of boarding that is none", put(room, "f13", {**files, "stop_times.txt": files["stop_times.txt"].replace(",B,2,", ",B,2,7")}), [], "pickup_type"),
+        ("a code of a place that is none", put(room, "f14", {**files, "stops.txt": files["stops.txt"].replace("stop_lon", "stop_lon,location_type").replace("8.02\r", "8.02,7\r")}), [], "location_type is '7'"),
+        ("a weekday that is neither 0 nor 1", put(room, "f15", {**files, "calendar.txt": files["calendar.txt"].replace("all,1", "all,yes")}), [], "monday is 'yes'"),
+        ("a weekday that is missing", put(room, "f16", {**files, "calendar.txt": files["calendar.txt"].replace("monday", "day1")}), [], "no column monday"),
+        ("a kind of headways that is none", put(room, "f17", {**files, "frequencies.txt": "trip_id,start_time,end_time,headway_secs,exact_times\r\na,7:00:00,8:00:00,600,3\r\n"}), [], "exact_times is '3'"),
+        ("a headway of 0", put(room, "f18", {**files, "frequencies.txt": "trip_id,start_time,end_time,headway_secs\r\na,7:00:00,8:00:00,0\r\n"}), [], "headway_secs is 0"),
+        ("headways without end", put(room, "f19", {**files, "frequencies.txt": "trip_id,start_time,end_time,headway_secs\r\na,0:00:00,90000:00:00,1\r\n"}), [], "more than 10000000 departures by headways"),
+        ("semicolons for commas", put(room, "f20", {name: it.replace(",", ";") for name, it in files.items()}), [], "its first line is"),
+        ("text in Latin-1", put(room, "f21", {**files, "stops.txt": files["stops.txt"].replace("Stop A", "Zürich").encode("latin-1")}), [], "iconv"),
+        ("days before the year 1", whole, ["00010101"], "between the years 1 and 9999"),
+        ("days after the year 9999", whole, ["99991231", "--days", "3"], "between the years 1 and 9999"),
+        ("more days than there may be", whole, ["--days", "999999999"], "1 to 1000 is wanted"),
         ("streets that aren't there", whole, ["--streets", os.path.join(room, "none")], "isn't there"),
         ("a target without a start", whole, ["--to", "A"], "--to needs --from"),
     ):
-        day = words.pop(0) if words and words[0].startswith("2026") else "20261123"
+        day = words.pop(0) if words and len(words[0]) == 8 and words[0].isdigit() else "20261123"
         *told, reason = refused("gtfs", room, path, day, os.path.join(room, "out"), *words)
         yield f"refused: {name}", (*told, part in reason), (True, True, [], True)
     # Left out one by one, with the rest still taken.
     odd = Feed({"good": ("1", "all", line("A", "B", "C", start=7 * 3600)), "back": ("1", "all", [(1, "A", 9000, 9000, "", ""), (2, "B", 8000, 8000, "", "")]), "one": ("1", "all", [(1, "A", 9000, 9000, "", "")]), "blank": ("1", "all", [(1, "A", None, None, "", ""), (2, "B", 9000, 9000, "", "")]),
                 "none": ("1", "all", line("A", "Z", start=3600)), "closed": ("1", "all", line("A", "B", start=3600, bans={0: (1, 1), 1: (1, 1)})), "double": ("1", "all", [(1, "A", 9000, 9000, "", ""), (1, "B", 9100, 9100, "", "")])})
     told = imported(room, odd, name="odd")
-    yield "trips that can't be are told", [summary_has(told, part) for part in ("1 trips whose times go back (back)", "1 trips with fewer than two calls (one)", "1 trips without a time at their first or last call (blank)", "1 trips with a call at a place that isn't a stop of stops.txt (none)", "1 trips that nobody may board and leave (closed)", "1 trips with two calls of one stop_sequence (double)")], [True] * 6
+    yield "trips that can't be are told", [summary_has(told, part) for part in ("1 trips whose times go back (back)", "1 trips with a single call (one)", "1 trips without a time at their first or last call (blank)", "1 trips with a call at a place that isn't a stop of stops.txt (none)", "1 trips that nobody may board and leave (closed)", "1 trips with two calls of one stop_sequence (double)")], [True] * 6
     only = Feed({"good": odd.trips["good"]})
     yield "and the others are taken", compared(room, "odd", only, "20261123", "ABC", (0,)), "all"
     bare = feed.files()
@@ -583,4 +689,4 @@ def hostile(room):
     yield "coordinates that are missing are told", (summary_has(told, "1 nodes without coordinates"), summary_has(told, "1 stops without coordinates"), compared(room, "noplace", feed, "20261123", "ABC", (0,))), (True, True, "all")
 
 
-CASES = (services_of_days, several_days, headways, blanks_and_order, bans, loops, overtaking, transfers, stations, walking, selection, random_feeds, legs_of_example, legs_stay, too_many_classes, seconds_as_unit, hostile)
+CASES = (services_of_days, several_days, headways, blanks_and_order, bans, loops, overtaking, transfers, stations, walking, selection, random_feeds, legs_of_example, legs_stay, too_many_classes, seconds_as_unit, written_as_floats, files_of_a_feed, told_of_tables, hostile)

@@ -2,21 +2,27 @@
 import csv
 import datetime
 import io
+import lzma
 import math
 import os
 import re
 import zipfile
+import zlib
 from array import array
 
 from .grouping import grouped
 from .telling import Refused
 
+WHOLE = re.compile(r"(-?[0-9]+)(?:\.0*)?")
+MOST_DIGITS = 18
+"""A whole number, also as spreadsheets and data frames write it, such as 3.0; with more digits it doesn't fit 64 bits."""
 WEEKDAYS = ("monday", "tuesday", "wednesday", "thursday", "friday", "saturday", "sunday")
 DAY = 86_400
 
 # The fields of GTFS that are read: of each file those without which a feed is refused, then the others.
 FIELDS = {
-    "calendar.txt": (("service_id", "start_date", "end_date"), WEEKDAYS),
+    "agency.txt": ((), ("agency_timezone", "agency_name")),
+    "calendar.txt": (("service_id", "start_date", "end_date", *WEEKDAYS), ()),
     "calendar_dates.txt": (("service_id", "date", "exception_type"), ()),
     "frequencies.txt": (("trip_id", "start_time", "end_time", "headway_secs"), ("exact_times",)),
     "routes.txt": (("route_id",), ("route_type", "route_short_name", "route_long_name")),
@@ -25,6 +31,11 @@ FIELDS = {
     "transfers.txt": (("from_stop_id", "to_stop_id"), ("transfer_type", "min_transfer_time", "from_route_id", "to_route_id", "from_trip_id", "to_trip_id")),
     "trips.txt": (("trip_id", "route_id", "service_id"), ("trip_headsign", "block_id")),
 }
+NEEDED = ("stops.txt", "routes.txt", "trips.txt", "stop_times.txt")
+# The fields that are codes: a few small numbers. Spreadsheets and data frames write them as 1.0.
+CODES = frozenset((*WEEKDAYS, "exception_type", "exact_times", "route_type", "pickup_type", "drop_off_type", "continuous_pickup", "continuous_drop_off", "location_type", "transfer_type"))
+CALLED = frozenset(("", "0", "1", "2", "3"))
+"""The codes of boarding and leaving."""
 
 
 class Feed:
@@ -43,19 +54,31 @@ class Feed:
                 self.zip = zipfile.ZipFile(path)
             except (zipfile.BadZipFile, OSError):
                 raise Refused(f"{path} is neither a folder nor a zip") from None
-            found = [name for name in self.zip.namelist() if name.endswith("stop_times.txt")]
-            if found and "stop_times.txt" not in found:
-                self.folder = found[0][:-len("stop_times.txt")]
-                summary.note(f"the feed's files are in the folder {self.folder} of the zip")
-            self.files = {name[len(self.folder):] for name in self.zip.namelist() if name.startswith(self.folder) and name.endswith(".txt")}
-        for name in ("stops.txt", "routes.txt", "trips.txt", "stop_times.txt"):
+            except NotImplementedError as fault:
+                raise Refused(f"{path} can't be unpacked: {fault}") from None
+            names = [name for name in self.zip.namelist() if not name.startswith("__MACOSX/")]
+            self._enter([name for name in names if name.rpartition("/")[2] == "stop_times.txt"])
+            self.files = {name[len(self.folder):] for name in names if name.startswith(self.folder) and name.endswith(".txt")}
+            packed = next((name for name in names if name.endswith(".zip")), None)
+            if packed and "stop_times.txt" not in self.files:
+                raise Refused(f"{path} is a zip of zips; unpack it and give one of them, such as {packed}")
+        for name in NEEDED:
             if name not in self.files:
                 raise Refused(f"{path} is no GTFS feed: it has no {name}")
         if not self.files & {"calendar.txt", "calendar_dates.txt"}:
             raise Refused(f"{path} is no GTFS feed: it has neither calendar.txt nor calendar_dates.txt")
 
+    def _enter(self, found):
+        """Finds the folder of a zip that has the feed."""
+        if not found or "stop_times.txt" in found:
+            return
+        if len(found) > 1:
+            raise Refused(f"{self.path} has {len(found)} feeds; unpack it and give one of the folders: {', '.join(name.rpartition('/')[0] for name in found[:8])}")
+        self.folder = found[0][:-len("stop_times.txt")]
+        self.summary.note(f"the feed's files are in the folder {self.folder} of the zip")
+
     def rows(self, name):
-        """(line, values of its FIELDS) of each row of a file; a missing optional value is ''."""
+        """(line, values of its FIELDS) of each row of a file; a missing optional value is '', and codes are written without a fraction."""
         if name not in self.files:
             return
         wanted, optional = FIELDS[name]
@@ -64,22 +87,28 @@ class Feed:
             with binary, io.TextIOWrapper(binary, encoding="utf-8-sig", newline="") as text:
                 table = csv.reader(text)
                 head = [column.strip() for column in next(table, [])]
+                if not head and name not in NEEDED:
+                    self.summary.note(f"{name} is empty")
+                    return
                 if not head:
                     raise Refused(f"{self.path}: {name} is empty")
                 for column in wanted:
                     if column not in head:
-                        raise Refused(f"{self.path}: {name} has no column {column}")
+                        raise Refused(f"{self.path}: {name} has no column {column}; its first line is {','.join(head)[:120]!r}, and names between commas are wanted")
                 places = [head.index(column) if column in head else -1 for column in (*wanted, *optional)]
+                codes = [spot for spot, column in enumerate((*wanted, *optional)) if column in CODES and column in head]
                 for row in table:
                     if row:
-                        yield table.line_num, [row[place].strip() if 0 <= place < len(row) else "" for place in places]
+                        values = [row[place].strip() if 0 <= place < len(row) else "" for place in places]
+                        for spot in codes:
+                            if "." in values[spot]:
+                                values[spot] = _code(values[spot])
+                        yield table.line_num, values
         except UnicodeDecodeError:
-            raise Refused(f"{self.path}: {name} isn't UTF-8") from None
+            raise Refused(f"{self.path}: {name} isn't UTF-8; `iconv -f ISO-8859-1 -t UTF-8` may change it") from None
         except csv.Error as fault:
             raise Refused(f"{self.path}: {name} isn't a table: {fault}") from None
-        except (zipfile.BadZipFile, EOFError, NotImplementedError, RuntimeError) as fault:
-            if isinstance(fault, Refused):
-                raise
+        except (zipfile.BadZipFile, zlib.error, lzma.LZMAError, EOFError, NotImplementedError, RuntimeError) as fault:
             raise Refused(f"{self.path}: {name} can't be unpacked: {fault}") from None
 
     def fault(self, name, line, sentence):
@@ -89,10 +118,10 @@ class Feed:
         """A whole number of a column."""
         if not text and usual is not None:
             return usual
-        try:
-            value = int(text)
-        except ValueError:
-            raise self.fault(name, line, f"{column} is {text!r}, and a whole number is wanted") from None
+        found = WHOLE.fullmatch(text)
+        if not found or len(text) > MOST_DIGITS:
+            raise self.fault(name, line, f"{column} is {text[:40]!r}, and a whole number of at most {MOST_DIGITS} digits is wanted")
+        value = int(found.group(1))
         if value < least:
             raise self.fault(name, line, f"{column} is {value}, and at least {least} is wanted")
         return value
@@ -112,9 +141,15 @@ class Feed:
         return self.clock[text]
 
 
+def _code(text):
+    """A code without a fraction of zeros; any other text as it is."""
+    found = WHOLE.fullmatch(text)
+    return str(int(found.group(1))) if found and len(text) <= MOST_DIGITS else text
+
+
 def date_of(text):
     """A day as 20261123."""
-    if not re.fullmatch(r"\d{8}", text):
+    if not re.fullmatch(r"[0-9]{8}", text):
         raise ValueError(f"{text!r} is no day: YYYYMMDD is wanted, as 20261123")
     try:
         return datetime.date(int(text[:4]), int(text[4:6]), int(text[6:]))
@@ -131,15 +166,26 @@ def _day(feed, name, line, text):
 
 def services(feed, first, days, back):
     """For each service the days that it runs on, from -back to days - 1 counted from the first; and the days that the calendar spans."""
-    asked = [(number, first + datetime.timedelta(days=number)) for number in range(-back, days)]
-    names = [(number, date.strftime("%Y%m%d"), WEEKDAYS[date.weekday()]) for number, date in asked]
-    runs, spans = {}, []
+    try:
+        asked = {first + datetime.timedelta(days=number): number for number in range(-back, days)}
+    except OverflowError:
+        raise Refused(f"the days asked, {back} before {first:%Y-%m-%d} and {days} from then on, aren't all between the years 1 and 9999") from None
+    names = {date.isoformat().replace("-", ""): (number, WEEKDAYS[date.weekday()]) for date, number in asked.items()}
+    runs, spans, weeks, exceptions = {}, [], set(), {}
     for line, row in feed.rows("calendar.txt"):
         service, start, end, week = row[0], row[1], row[2], dict(zip(WEEKDAYS, row[3:]))
         _day(feed, "calendar.txt", line, start)
         _day(feed, "calendar.txt", line, end)
+        wrong = next((day for day in WEEKDAYS if week[day] not in ("0", "1")), None)
+        if wrong:
+            raise feed.fault("calendar.txt", line, f"{wrong} is {week[wrong]!r}, and 0 or 1 is wanted")
+        if service in weeks:
+            feed.summary.take("further lines of calendar.txt for a service, which add to its days")
+        weeks.add(service)
+        if end < start:
+            feed.summary.leave("services that end before they begin", service)
         spans += [start, end]
-        for number, date, weekday in names:
+        for date, (number, weekday) in names.items():
             if start <= date <= end and week[weekday] == "1":
                 runs.setdefault(service, set()).add(number)
     for line, (service, date, kind) in feed.rows("calendar_dates.txt"):
@@ -147,10 +193,21 @@ def services(feed, first, days, back):
             raise feed.fault("calendar_dates.txt", line, f"exception_type is {kind!r}, and 1 or 2 is wanted")
         _day(feed, "calendar_dates.txt", line, date)
         spans.append(date)
-        for number, name, _ in names:
-            if name == date:
-                (runs.setdefault(service, set()).add if kind == "1" else runs.setdefault(service, set()).discard)(number)
+        if date in names:
+            number = names[date][0]
+            if exceptions.setdefault((service, number), kind) != kind:
+                feed.summary.leave("services that calendar_dates.txt both adds and removes on a day asked; the last line holds", f"{service} on {date}")
+            (runs.setdefault(service, set()).add if kind == "1" else runs.setdefault(service, set()).discard)(number)
     return {service: sorted(on) for service, on in runs.items() if on}, (min(spans), max(spans)) if spans else None
+
+
+def nearest_day(feed, wanted, first, span):
+    """The day nearest to another on which one of some services runs, as 20261123; None if none does within a year of the calendar's days."""
+    middle = min(max(first, date_of(span[0])), date_of(span[1]))
+    back, days = min(366, middle.toordinal() - 1), min(367, datetime.date.max.toordinal() - middle.toordinal() + 1)
+    runs, _ = services(feed, middle, days, back)
+    near = min((abs(middle.toordinal() + day - first.toordinal()), day) for service in wanted if service in runs for day in runs[service]) if wanted & set(runs) else None
+    return (middle + datetime.timedelta(days=near[1])).isoformat().replace("-", "") if near else None
 
 
 class Stops:
@@ -160,14 +217,16 @@ class Stops:
         self.ids, self.names, self.places, self.station = [], [], [], []
         self.number, self.children, self.by_name = {}, {}, {}
         self.outside = set()
-        kinds = {"": "0"}
         for line, (stop, name, latitude, longitude, kind, parent) in feed.rows("stops.txt"):
-            if kinds.get(kind, kind) == "1":
+            if kind == "1":
                 self.children.setdefault(stop, [])
                 self.by_name.setdefault(name, []).append(stop)
                 continue
-            if kinds.get(kind, kind) != "0":
+            if kind in ("2", "3", "4"):
+                summary.leave("entrances, crossings and boarding areas of stations, not looked at", stop)
                 continue
+            if kind not in ("", "0"):
+                raise feed.fault("stops.txt", line, f"location_type is {kind!r}, and 0 to 4 is wanted")
             if stop in self.number:
                 raise feed.fault("stops.txt", line, f"the stop {stop!r} was there before")
             place = self._place(feed, line, latitude, longitude)
@@ -218,6 +277,8 @@ class Calls:
             if stop not in stops.number:
                 unknown.add(number)
                 continue
+            if pickup not in CALLED or drop not in CALLED:
+                raise feed.fault("stop_times.txt", line, f"pickup_type and drop_off_type are {pickup!r} and {drop!r}, and 0 to 3 is wanted")
             if pickup in ("2", "3") or drop in ("2", "3"):
                 summary.take("calls on demand (by phone or by telling the driver), taken as regular")
             if on in ("0", "2", "3") or off in ("0", "2", "3"):
@@ -237,8 +298,10 @@ class Calls:
         if trip in self.unknown:
             return self._left("trips with a call at a place that isn't a stop of stops.txt", name)
         rows = sorted(self.places[self.firsts[trip]:self.firsts[trip + 1]], key=lambda row: self.sequence[row])
+        if not rows:
+            return self._left("trips without calls in stop_times.txt", name)
         if len(rows) < 2:
-            return self._left("trips with fewer than two calls", name)
+            return self._left("trips with a single call", name)
         if any(self.sequence[here] == self.sequence[there] for here, there in zip(rows, rows[1:])):
             return self._left("trips with two calls of one stop_sequence", name)
         arrivals = [self.arrival[row] if self.arrival[row] >= 0 else self.departure[row] for row in rows]

@@ -54,6 +54,11 @@ class Summary:
         if sentence not in self.notes:
             self.notes.append(sentence)
 
+    def reasons(self):
+        """What was left out so far, the most first, as the end of a refusal's sentence."""
+        most = sorted(((why, count) for why, (count, _) in self.left.items() if count), key=lambda it: -it[1])[:4]
+        return "; left out were " + ", ".join(f"{count} {why}" for why, count in most) if most else ""
+
     def lines(self):
         yield "taken:"
         yield from (f"  {count} {what}" for what, count in self.taken.items() if count)

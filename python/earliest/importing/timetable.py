@@ -27,6 +27,8 @@ class Transfers:
                 summary.leave("transfers between places without stops", f"line {line}")
                 continue
             seconds = feed.number("transfers.txt", line, "min_transfer_time", least, -1) if kind == "2" else -1
+            if least and kind != "2":
+                summary.leave("least times of transfers that aren't of type 2, not looked at", f"line {line}")
             if kind == "2" and seconds < 0:
                 summary.leave("transfers with a least time that isn't told", f"line {line}")
                 continue
