@@ -7,36 +7,16 @@ has two nodes, one at its start and one at its end: an arc leads along the edge,
 that its connections allow to turn to. So a walk keeps to the turns of the network. Who starts on an edge starts at its start, and who goes
 to an edge goes to its end.
 """
-import gzip
 import math
-import os
 import sys
-import xml.etree.ElementTree as trees
 
 from .importing import writing
 from .importing.telling import Refused, Summary, ended
+from .importing.xml_reading import elements
 
 
-def elements(path, root_tag, tags):
-    """The elements of an XML file at the first level or below, when they end; what was read is freed."""
-    if not os.path.exists(path):
-        raise Refused(f"{path} isn't there")
-    opened = gzip.open if path.endswith(".gz") else open
-    try:
-        with opened(path, "rb") as file:
-            root = None
-            for event, element in trees.iterparse(file, events=("start", "end")):
-                if root is None:
-                    root = element
-                    if root.tag not in root_tag:
-                        raise Refused(f"{path} is XML of another kind: it begins with <{root.tag}>, and <{root_tag[0]}> is wanted")
-                elif event == "end" and element.tag in tags:
-                    yield element
-                    root.clear()
-    except (trees.ParseError, LookupError) as fault:  # a LookupError is an encoding that nobody knows
-        raise Refused(f"{path} is cut off or isn't XML: {fault}") from None
-    except (EOFError, gzip.BadGzipFile) as fault:
-        raise Refused(f"{path} is cut off or compressed otherwise: {fault}") from None
+TOP_SPEEDS = {"bicycle": 20, "moped": 45, "tram": 80, "bus": 85, "coach": 100, "rail_urban": 100, "truck": 130, "trailer": 130, "rail": 160}
+"""The most that classes of vehicles go if nobody says otherwise, in km/h, as in SUMO's own defaults of vehicle types. Others keep to the lanes'."""
 
 
 def number_of(element, key, path, least=0.0):
@@ -50,13 +30,20 @@ def number_of(element, key, path, least=0.0):
     return value
 
 
+def opened(element, vehicle):
+    """Whether `allow` and `disallow` of a lane or connection let a vehicle pass; of both `allow` decides."""
+    allow, disallow = element.get("allow"), element.get("disallow")
+    if allow is not None:
+        return vehicle in allow.split() or allow == "all"
+    return disallow is None or (vehicle not in disallow.split() and disallow != "all")
+
+
 class Lane:
     __slots__ = ("speed", "length", "open", "shape")
 
     def __init__(self, element, vehicle, path):
         self.speed, self.length = number_of(element, "speed", path), number_of(element, "length", path)
-        allow, disallow = element.get("allow"), element.get("disallow")
-        self.open = (allow is None and disallow is None) or (allow is not None and (vehicle in allow.split() or allow == "all")) or (allow is None and disallow is not None and vehicle not in disallow.split() and disallow != "all")
+        self.open = opened(element, vehicle)
         self.shape = element.get("shape", "")
 
 
@@ -67,17 +54,22 @@ class Town:
         self.path, self.most, self.summary = path, most, summary
         self.edges, self.lanes, self.inner = {}, {}, {}  # id: lanes; (edge, lane): Lane; lane id: Lane
         self.turns, self.onward = {}, {}
+        self.limits = {}  # type of edge: its speed for the vehicle
         self.projection = None
         connections = []
-        for element in elements(path, ("net",), ("location", "edge", "connection")):
+        for element in elements(path, "net", ("location", "type", "edge", "connection")):
             if element.tag == "location":
                 self.projection = element.get("netOffset", "0,0"), element.get("projParameter", "!")
+            elif element.tag == "type":
+                self.limits.update((element.get("id"), number_of(it, "speed", path)) for it in element.iter("restriction") if it.get("vClass") == vehicle)
             elif element.tag == "edge":
                 self._edge(element, vehicle)
-            else:
+            elif opened(element, vehicle):
                 connections.append(tuple(element.get(key) for key in ("from", "to", "fromLane", "toLane", "via")))
+            else:
+                summary.leave("connections that the vehicle may not use", f"{element.get('from')} to {element.get('to')}")
         if not self.edges:
-            raise Refused(f"{path} has no edge that a {vehicle} may use")
+            raise Refused(f"{path} has no edge that a {vehicle} may use{summary.reasons()}")
         for start, end, lane, onto, via in connections:
             self._connection(start, end, lane, onto, via)
         self._inside()
@@ -87,6 +79,11 @@ class Town:
         if number is None:
             raise Refused(f"{self.path}: an <edge> has no id")
         lanes = [(it.get("index", str(place)), it.get("id"), Lane(it, vehicle, self.path)) for place, it in enumerate(element.iter("lane"))]
+        limit = self.limits.get(element.get("type"))
+        if limit is not None:
+            self.summary.take("edges with a speed for this vehicle by their type")
+            for _, _, lane in lanes:
+                lane.speed = limit
         if function == "internal":
             for index, name, lane in lanes:
                 self.inner[name] = (number, index, lane)
@@ -116,6 +113,9 @@ class Town:
             return
         if (start, lane) not in self.lanes or (end, onto) not in self.lanes:
             self.summary.leave("connections from or to lanes that the vehicle may not use", f"{start} to {end}")
+            return
+        if via in self.inner and not self.inner[via][2].open:
+            self.summary.leave("connections over lanes inside junctions that the vehicle may not use", f"{start} to {end}")
             return
         self.turns.setdefault((start, end), []).append(via)
 
@@ -180,22 +180,24 @@ class Speeds:
     """Speeds by intervals, of edge data with `traveltime` or `speed`."""
 
     def __init__(self, paths, town, summary):
-        self.intervals, self.speeds = [], {}
+        self.speeds, self.lanes = {}, False
         for path in paths:
             begin = end = None
-            for element in elements(path, ("meandata", "edgedata", "data", "netstate"), ("interval",)):
+            for element in elements(path, None, ("interval",)):
                 begin, end = number_of(element, "begin", path), number_of(element, "end", path)
                 if end <= begin:
                     raise Refused(f"{path}: an interval begins at {begin:g} and ends at {end:g}")
+                if end > writing.MOST_PERIOD:  # SUMO's greatest time
+                    summary.take("intervals without an end, taken until the end of the period")
+                    end = math.inf
                 self._interval(path, element, begin, end, town, summary)
             if begin is None:
                 raise Refused(f"{path} has no <interval>")
         if not self.speeds:
-            raise Refused(f"{', '.join(paths)} has no speed of an edge of the network")
+            raise Refused(f"{', '.join(paths)} has no speed of an edge of the network{'; values of lanes are not taken, SUMO writes those of edges by <edgeData>' if self.lanes else ''}")
 
     def _interval(self, path, element, begin, end, town, summary):
         summary.take("intervals of edge data")
-        self.intervals.append((begin, end))
         for edge in element.iter("edge"):
             number = edge.get("id")
             if number not in town.edges:
@@ -207,6 +209,7 @@ class Speeds:
             elif edge.get("speed") is not None:
                 speed = number_of(edge, "speed", path)
             else:
+                self.lanes = self.lanes or edge.find("lane") is not None
                 summary.leave("values of edge data without traveltime and speed: the edge is free then", number)
                 continue
             summary.take("speeds of edges in intervals" if speed > 0 else "intervals in which an edge stands still (speed 0)")
@@ -222,8 +225,8 @@ class Speeds:
         found = sorted(self.speeds.get(number, ()))
         for place, (begin, end, speed) in enumerate(found):
             if place and begin < found[place - 1][1]:
-                raise Refused(f"the edge data have two intervals at {begin:g} for edge {number!r}")
-            if end > period:
+                raise Refused(f"the edge data have two intervals at {begin:g} for edge {number!r}; give those of one kind (one id of <interval>)")
+            if period < end < math.inf or begin >= period:
                 raise Refused(f"the edge data go on until {end:g}, beyond the period of {period:g} seconds; give a longer --period")
             marks[begin] = speed
             if end < period:
@@ -310,9 +313,15 @@ class Files:
         self.summary.note("traffic lights, priority and queues at junctions take no time, but what the edge data have of them; SUMO's router adds 1.5 seconds where one has to yield (--weights.minor-penalty)")
 
 
-def convert(path, name, data=(), vehicle="passenger", most=math.inf, unit="hundredths", period=86_400, rounding=0.0, starts=(), goals=()):
-    """Writes the network of a SUMO network and returns its summary."""
+def convert(path, name, data=(), vehicle="passenger", most=None, unit="hundredths", period=86_400, rounding=0.0, starts=(), goals=()):
+    """Writes the network of a SUMO network and returns its summary. `most` is in metres per second; None takes that of TOP_SPEEDS."""
     summary = Summary()
+    if vehicle == "pedestrian":
+        raise Refused("walkers go both ways along an edge and over crossings, which networks of edges and turns don't have; `earliest osm --profile foot` makes a network for them")
+    if most is None:
+        most = TOP_SPEEDS[vehicle] / 3.6 if vehicle in TOP_SPEEDS else math.inf
+        if vehicle in TOP_SPEEDS:
+            summary.note(f"a {vehicle} goes at most {TOP_SPEEDS[vehicle]} km/h, as in SUMO; --max-speed says otherwise")
     with writing.Outputs(name) as out:
         town = Town(path, vehicle, most, summary)
         speeds = Speeds(data, town, summary) if data else None
@@ -335,7 +344,7 @@ def command(words):
     asked.add_argument("name", help="NAME of the files that are written")
     asked.add_argument("--data", action="append", default=[], metavar="FILE", help="edge data by intervals (meandata), with `traveltime` or `speed`; may be given several times")
     asked.add_argument("--vehicle", default="passenger", help="the class of vehicle (default: passenger)")
-    asked.add_argument("--max-speed", type=float, default=math.inf, metavar="M/S", help="the most that the vehicle goes (default: no limit)")
+    asked.add_argument("--max-speed", type=float, metavar="M/S", help="the most that the vehicle goes (default: as in SUMO for bicycles, buses, trucks, trains, else no limit)")
     asked.add_argument("--period", type=int, default=86_400, metavar="SECONDS", help="after how many seconds the edge data repeat (default: 86400)")
     asked.add_argument("--rounding", type=float, default=0.0, metavar="PERCENT", help="round speeds to steps of so many per cent, so that more edges share a class (default: 0)")
     writing.add_unit(asked)
@@ -344,7 +353,7 @@ def command(words):
     given = asked.parse_args(words)
     if given.goals and not given.starts:
         asked.error("--to needs --from")
-    if not given.max_speed > 0 or not 0 <= given.rounding <= 100 or not 1 <= given.period * writing.UNITS[given.unit] <= writing.MOST_PERIOD:
+    if not (given.max_speed is None or given.max_speed > 0) or not 0 <= given.rounding <= 100 or not 1 <= given.period * writing.UNITS[given.unit] <= writing.MOST_PERIOD:
         asked.error("--max-speed is above 0, --rounding 0 to 100, and --period at least 1 and within the format's limit")
     summary, files = convert(given.net, given.name, given.data, given.vehicle, given.max_speed, given.unit, given.period, given.rounding, given.starts, given.goals)
     summary.tell()

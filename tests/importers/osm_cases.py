@@ -527,6 +527,24 @@ def readers(room):
     yield "ids of 64 bits are kept", sorted(int(row["id"]) for row in table(room, "a.nodes.csv"))[0] > 2**40 and {int(row["way"].split(";")[0]) for row in table(room, "a.arcs.csv") if row["way"]} <= set(ways), True
 
 
+def odd_xml(room):
+    """XML that calls its encoding utf8, and files of JOSM, which marks what was deleted: read the same by whatever reads them."""
+    nodes, ways = cross()
+    nodes[2] = (*nodes[2], {"barrier": "bollard", "note": "Brücke"})
+    town = Town(nodes, ways)
+    imported(room, town, "--reader", "python", name="plain")
+    whole = town.xml()
+    extra = '<way id="77" version="1" action="delete"><nd ref="1"/><nd ref="7"/><tag k="highway" v="residential"/></way>\n</osm>'
+    for name, text_ in (("utf8", whole.replace("UTF-8", "utf8")), ("josm", whole.replace('<osm version="0.6">', '<osm version="0.6" generator="JOSM">').replace("</osm>", extra)), ("utf16", whole.replace("UTF-8", "UTF-16").encode("utf-16"))):
+        path = put(room, name + ".osm", text_)
+        for reader in ("auto", "python"):
+            good("osm", path, os.path.join(room, name), "--profile", os.path.join(room, "test.ini"), "--reader", reader)
+            yield f"{name} by {reader}", [[row for row in text(room, it + end).split("\n") if not row.startswith("c ")] for end in (".gr", ".nodes.csv", ".arcs.csv") for it in (name,)], [[row for row in text(room, "plain" + end).split("\n") if not row.startswith("c ")] for end in (".gr", ".nodes.csv", ".arcs.csv")]
+    closed = Town(nodes, {way: (refs, {**tags, "access": "no"}) for way, (refs, tags) in ways.items()})
+    *told, reason = refused("osm", room, closed.write(room, "closed.osm"), os.path.join(room, "none"), "--profile", os.path.join(room, "test.ini"))
+    yield "refused: no way is open, and why", (*told, f"left out were {len(ways)} ways without access" in reason), (True, True, [], True)
+
+
 def unit_and_files(room):
     """--unit, files that are whole, an older .tp of ours that is removed, one of others that stays."""
     nodes, ways = cross()
@@ -585,4 +603,4 @@ def hostile(room):
     yield "refused: a folder to write to that isn't there", (*told, "isn't there" in reason), (True, True, [], True)
 
 
-CASES = (tags_of_speed, directions, bicycles_and_walkers, barriers_and_ferries, chains, rings, restrictions_at_nodes, restrictions_at_joints, restrictions_over_ways, random_towns, turns_in_random_towns, turn_costs, largest_part, places_asked, missing_nodes, readers, unit_and_files, example, hostile)
+CASES = (tags_of_speed, directions, bicycles_and_walkers, barriers_and_ferries, chains, rings, restrictions_at_nodes, restrictions_at_joints, restrictions_over_ways, random_towns, turns_in_random_towns, turn_costs, largest_part, places_asked, missing_nodes, readers, odd_xml, unit_and_files, example, hostile)

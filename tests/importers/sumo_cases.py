@@ -144,6 +144,46 @@ def standing_edges(room):
     yield "refused: all edges stand still", (*told, "nothing is left" in reason), (True, True, [], True)
 
 
+def kinds_of_data(room):
+    """Edge data of any root, as SUMO wrote them over the years; an interval to SUMO's greatest time goes on until the end of the period."""
+    edges = {"a": (300.0, 10.0, ""), "b": (200.0, 10.0, "")}
+    put(room, "town.net.xml", net(edges, [("a", "b")]))
+    whole = data([(0, 60, {"a": 'speed="5"'}), (60, 120, {"a": 'speed="2.5"', "b": 'traveltime="100"'})])
+    for root in ("meandata", "netstats", "weights", "edgedata", "a"):
+        good("sumo", os.path.join(room, "town.net.xml"), os.path.join(room, "town"), "--data", put(room, "data.xml", whole.replace("meandata", root)), "--period", 400)
+        yield f"edge data in <{root}>", agree(room, "town", edges, lambda edge, time: searched(edges, [("a", "b")], edge, time, {"a": [(0, 60, 5.0), (60, 120, 2.5)], "b": [(60, 120, 2.0)]}, 400.0), edges, (0, 59, 130, 399)), "all"
+    put(room, "ever.xml", data([(60, 9223372036854774.784, {"a": 'speed="2"'})]))
+    told = good("sumo", os.path.join(room, "town.net.xml"), os.path.join(room, "town"), "--data", os.path.join(room, "ever.xml"), "--period", 400)
+    yield "an interval without an end", agree(room, "town", edges, lambda edge, time: searched(edges, [("a", "b")], edge, time, {"a": [(60, 400, 2.0)]}, 400.0), edges, (0, 50, 61, 390)), "all"
+    yield "intervals without an end are told", summary_has(told, "1 intervals without an end"), True
+
+
+def speeds_of_vehicles(room):
+    """Bicycles, buses and the like go at most as fast as in SUMO, and at the speed of an edge's type for them."""
+    edges = {"a": (100.0, 30.0, ""), "b": (200.0, 3.0, ""), "c": (50.0, 30.0, "")}
+    whole = net(edges, [("a", "b"), ("a", "c")]).replace('<edge id="c"', '<edge id="c" type="path"').replace("<location", '<type id="path"><restriction vClass="bicycle" speed="2.5"/><restriction vClass="bus" speed="8"/></type>\n<location')
+    path = put(room, "town.net.xml", whole)
+    for vehicle, words, most, limit in (("passenger", [], 1e9, 30.0), ("bicycle", [], 20 / 3.6, 2.5), ("bus", [], 85 / 3.6, 8.0), ("bicycle", ["--max-speed", "4"], 4.0, 2.5), ("bicycle", ["--max-speed", "2"], 2.0, 2.5)):
+        told = good("sumo", path, os.path.join(room, "town"), "--vehicle", vehicle, *words)
+        driven_at = {edge: (length, min(most, limit if edge == "c" else speed), "") for edge, (length, speed, _) in edges.items()}
+        yield f"a {vehicle} {words}", agree(room, "town", driven_at, lambda edge, time: searched(driven_at, [("a", "b"), ("a", "c")], edge, time), driven_at, (0,)), "all"
+        yield f"the most of a {vehicle} {words} is told", summary_has(told, f"a {vehicle} goes at most"), vehicle != "passenger" and not words
+        yield f"the types of a {vehicle} {words} are told", summary_has(told, "1 edges with a speed for this vehicle by their type"), vehicle != "passenger"
+
+
+def turns_for_others(room):
+    """Connections, and lanes inside junctions, that are closed for the vehicle aren't driven though the edges are open."""
+    edges = {edge: (100.0, 10.0, "") for edge in "abcd"}
+    inside = '<edge id=":J_0" function="internal"><lane id=":J_0_0" index="0" speed="5" length="10" allow="bus"/></edge>\n'
+    whole = net(edges, [("a", "b"), ("a", "c"), ("a", "d")]).replace('to="b" fromLane="0" toLane="0"', 'to="b" fromLane="0" toLane="0" disallow="passenger"').replace('to="c" fromLane="0" toLane="0"', 'to="c" fromLane="0" toLane="0" via=":J_0_0"').replace('<edge id="a"', inside + '<edge id="a"')
+    path = put(room, "town.net.xml", whole)
+    told = good("sumo", path, os.path.join(room, "town"))
+    yield "what is closed for cars", agree(room, "town", edges, lambda edge, time: searched(edges, [("a", "d")], edge, time), edges, (0,)), "all"
+    yield "they are told", [summary_has(told, part) for part in ("1 connections that the vehicle may not use (a to b)", "1 connections over lanes inside junctions that the vehicle may not use (a to c)")], [True, True]
+    good("sumo", path, os.path.join(room, "town"), "--vehicle", "bus", "--max-speed", "20")
+    yield "a bus drives them", agree(room, "town", edges, lambda edge, time: searched(edges, [("a", "b"), ("a", "c"), ("a", "d")], edge, time, inside={("a", "c"): 2.0}), edges, (0,)), "all"
+
+
 def classes_are_shared(room):
     """Edges with the same pattern of speeds share a class, whatever their lengths and limits."""
     edges = {f"e{number}": (100.0 + number, 10.0 if number % 2 else 20.0, "") for number in range(50)}
@@ -209,11 +249,14 @@ def hostile(room):
         ("bytes that aren't gzip", put(room, "x.net.xml.gz", "hello"), [], "x.net.xml.gz"),
         ("a file that isn't there", os.path.join(room, "nowhere.net.xml"), [], "isn't there"),
         ("an edge to start from that isn't there", path, ["--from", "z"], "no such edge"),
-        ("data of another kind", path, ["--data", put(room, "d1.xml", "<routes/>")], "<routes>"),
+        ("data of another kind", path, ["--data", put(room, "d1.xml", "<routes/>")], "no <interval>"),
+        ("data of lanes", path, ["--data", put(room, "d7.xml", '<meandata><interval begin="0" end="60"><edge id="a"><lane id="a_0" speed="1"/></edge></interval></meandata>')], "<edgeData>"),
+        ("a network as edge data", path, ["--data", path], "no <interval>"),
+        ("walkers", path, ["--vehicle", "pedestrian"], "earliest osm --profile foot"),
         ("data without intervals", path, ["--data", put(room, "d2.xml", "<meandata/>")], "no <interval>"),
         ("data of other edges", path, ["--data", put(room, "d3.xml", data([(0, 60, {"q": 'speed="1"'})]))], "no speed of an edge"),
         ("data beyond the period", path, ["--data", put(room, "d4.xml", data([(0, 90000, {"a": 'speed="1"'})]))], "longer --period"),
-        ("intervals that overlap", path, ["--data", put(room, "d5.xml", data([(0, 60, {"a": 'speed="1"'}), (30, 90, {"a": 'speed="2"'})]))], "two intervals"),
+        ("intervals that overlap", path, ["--data", put(room, "d5.xml", data([(0, 60, {"a": 'speed="1"'}), (30, 90, {"a": 'speed="2"'})]))], "one id of <interval>"),
         ("an interval that ends before it begins", path, ["--data", put(room, "d6.xml", data([(60, 0, {"a": 'speed="1"'})]))], "begins at"),
         ("a vehicle that nobody knows", put(room, "bus.net.xml", net({"e": EDGES["e"]}, [])), ["--vehicle", "tram"], "no edge that a tram"),
         ("a period of nothing", path, ["--period", "0"], "--period"),
@@ -223,4 +266,4 @@ def hostile(room):
     yield "nothing was written", text(room, "town.net.xml"), whole
 
 
-CASES = (turns_and_permissions, lanes_inside, intervals, standing_edges, classes_are_shared, random_networks, example, hostile)
+CASES = (turns_and_permissions, lanes_inside, intervals, standing_edges, kinds_of_data, speeds_of_vehicles, turns_for_others, classes_are_shared, random_networks, example, hostile)

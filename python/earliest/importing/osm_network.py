@@ -54,7 +54,7 @@ class Extract:
         self.restrictions = []
         source.ways_and_relations(self._way, self._relation)
         if not self.way_ids:
-            raise Refused(f"{source.path} has no way that the profile {profile.name} takes")
+            raise Refused(f"{source.path} has no way that the profile {profile.name} takes{summary.reasons()}")
         self.ids = Ids(self.refs)
         self.index = self.ids.places(self.refs)
         self.refs = None

@@ -1,12 +1,13 @@
 """Elements of OpenStreetMap files: by pyosmium if it is there, XML by the standard library too. Both hand over plain numbers and dicts."""
-import bz2
-import gzip
 import os
-import xml.etree.ElementTree as trees
+import re
 
 from .telling import Refused
+from .xml_reading import elements, head_of
 
 MOST_ID = 2**63 - 1
+ENCODINGS = ("utf-8", "utf-16", "iso-8859-1", "us-ascii")
+"""What pyosmium's reader of XML knows."""
 XML_ENDS = (".osm", ".xml", ".osm.bz2", ".osm.gz", ".xml.bz2", ".xml.gz")
 
 
@@ -27,13 +28,19 @@ class Source:
             raise Refused(f"{path} isn't there")
         if not os.path.isfile(path):
             raise Refused(f"{path} is not a file")
-        self.osmium = osmium_or_none() if reader != "python" else None
+        self.osmium = osmium_or_none() if reader == "pyosmium" or (reader == "auto" and not self._beyond_pyosmium()) else None
         if reader == "pyosmium" and self.osmium is None:
             raise Refused("pyosmium isn't there; install it by `pip install osmium` or `apt-get install python3-pyosmium`")
         if self.osmium is None and not path.endswith(XML_ENDS):
             raise Refused(f"{path}: only {', '.join(XML_ENDS[:1] + XML_ENDS[2:4])} can be read without pyosmium; " + (
                 "leave --reader python out" if osmium_or_none() else "install it by `pip install osmium` or `apt-get install python3-pyosmium`"))
         self.reader = "pyosmium" if self.osmium else "the standard library"
+
+    def _beyond_pyosmium(self):
+        """Whether XML is of a kind that pyosmium doesn't know: in another encoding, or written by JOSM, which marks what was deleted."""
+        head = head_of(self.path) if self.path.endswith(XML_ENDS) else ""
+        told = re.match(r"\s*<\?xml[^>]*encoding=[\"']([^\"']*)", head)
+        return bool(told and told.group(1).lower() not in ENCODINGS or re.search(r"<osm[^>]*generator=[\"']JOSM", head))
 
     def ways_and_relations(self, way, relation):
         """Calls way(id, node ids, tags) and relation(id, [(type, id, role)], tags); types are n, w, r."""
@@ -79,26 +86,9 @@ class Source:
             raise Refused(f"{self.path} can't be read as OpenStreetMap data: {fault}") from None
 
     def _elements(self):
-        """Each node, way and relation; what has been gone through is let go."""
-        opened = bz2.open if self.path.endswith(".bz2") else gzip.open if self.path.endswith(".gz") else open
-        root = None
-        try:
-            with opened(self.path, "rb") as file:
-                for event, element in trees.iterparse(file, events=("start", "end")):
-                    if root is None:
-                        root = element
-                        if root.tag != "osm":
-                            raise Refused(f"{self.path} is XML of another kind: it begins with <{root.tag}>, and <osm> is wanted")
-                    elif event == "end" and element.tag in ("node", "way", "relation"):
-                        if element.get("action") != "delete" and element.get("visible") != "false":
-                            yield element
-                        root.clear()
-        except (trees.ParseError, LookupError) as fault:  # a LookupError is an encoding that nobody knows
-            raise Refused(f"{self.path} is cut off or isn't XML: {fault}") from None
-        except (EOFError, gzip.BadGzipFile, OSError) as fault:
-            if isinstance(fault, OSError) and fault.errno:
-                raise
-            raise Refused(f"{self.path} is cut off or compressed otherwise: {fault}") from None
+        for element in elements(self.path, "osm", ("node", "way", "relation")):
+            if element.get("action") != "delete" and element.get("visible") != "false":
+                yield element
 
 
 def _of_traffic(tags):
