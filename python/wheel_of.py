@@ -142,6 +142,8 @@ def written(directory, table, tag, contents):
     contents[f"{info}/METADATA"] = metadata(table)
     for name, text in licenses():
         contents[f"{info}/licenses/{name}"] = text
+    scripts = "".join(f"{name} = {call}\n" for name, call in table["scripts"].items())
+    contents[f"{info}/entry_points.txt"] = f"[console_scripts]\n{scripts}".encode()
     contents[f"{info}/WHEEL"] = f"Wheel-Version: 1.0\nGenerator: wheel_of\nRoot-Is-Purelib: false\nTag: {tag}\n".encode()
     rows = [f"{path},sha256={base64.urlsafe_b64encode(hashlib.sha256(text).digest()).rstrip(b'=').decode()},{len(text)}\n" for path, text in contents.items()]
     contents[f"{info}/RECORD"] = "".join([*rows, f"{info}/RECORD,,\n"]).encode()

@@ -137,7 +137,7 @@ def of_lists(nodes: int, lists: Sequence[Any], tp: Optional[bytes]) -> Core:
     return Core(again, lambda handle, fault: library().earliest_road_of_lists(nodes, *words, times, len(times), handle, fault), refused)
 
 
-def made_again(cls, parts: Dict[str, Any], names: Any, edges: Any) -> Any:
+def made_again(cls, parts: Dict[str, Any], names: Any, edges: Any, places: Any = None) -> Any:
     """The road that a pickle is of."""
     again = Again(**parts)
     if again.paths:
@@ -152,7 +152,7 @@ def made_again(cls, parts: Dict[str, Any], names: Any, edges: Any) -> Any:
         core = of_texts(again.texts[0], again.texts[1], again.files)
     else:
         core = of_lists(again.nodes, again.lists, again.tp)
-    return cls._over(core, names, edges)
+    return cls._over(core, names, edges, places)
 
 
 def ends_of_text(text: bytes):

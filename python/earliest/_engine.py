@@ -26,6 +26,7 @@ class Road:
     _core: Core
     _names: Optional[Names]
     _edges: Optional[Sequence[Any]]
+    _places: Any = None
 
     def __init__(self, gr: bytes, tp: Optional[bytes] = None, files: Sequence[str] = ("gr", "tp")):
         """The road of the text of a network (.gr) and of that of its timetables (.tp), as bytes. `files` names them in failures."""
@@ -36,9 +37,9 @@ class Road:
         self._core, self._names, self._edges = of_texts(texts[0], texts[1], files), None, None  # type: ignore[arg-type]
 
     @classmethod
-    def _over(cls, core: Core, names: Optional[Names], edges: Optional[Sequence[Any]]) -> "Road":
+    def _over(cls, core: Core, names: Optional[Names], edges: Optional[Sequence[Any]], places: Any = None) -> "Road":
         road = cls.__new__(cls)
-        road._core, road._names, road._edges = core, names, edges
+        road._core, road._names, road._edges, road._places = core, names, edges, places
         return road
 
     # Ways to make one
@@ -119,12 +120,22 @@ class Road:
         named = Names(names)
         if len(named) != self.nodes:
             raise Failure(23, f"there are {len(named)} names, and {self.nodes} nodes", (len(named), self.nodes))
-        return self._over(self._core, named, self._edges)
+        return self._over(self._core, named, self._edges, self._places)
+
+    def placed(self, path: str, degrees: bool = False) -> "Road":
+        """This road with the places of its nodes, for `nearest`: of a coordinates file (.co) or of an importer's NAME.nodes.csv.
+
+        With `degrees` a .co whose first comment tells no unit has millionths of a degree; without it, it is refused. What can't be used
+        is a `Refused` of earliest.nearest.
+        """
+        from ._places import places_of
+
+        return self._over(self._core, self._names, self._edges, places_of(path, self.nodes, degrees))
 
     @property
     def numbered(self) -> "Road":
         """This road without names: its calls and answers speak of nodes by their numbers from 1."""
-        return self._over(self._core, None, self._edges)
+        return self._over(self._core, None, self._edges, self._places)
 
     def prepare(self) -> "Road":
         """Prepares this road, in place, for searches of pairs: far pairs take a fraction of the time, with the same arrivals. Returns the road.
@@ -184,7 +195,7 @@ class Road:
         return self
 
     def __reduce__(self):
-        return made_again, (type(self), self._core.again.parts, self._names, self._edges)
+        return made_again, (type(self), self._core.again.parts, self._names, self._edges, self._places)
 
     def __enter__(self):
         return self
@@ -211,6 +222,17 @@ class Road:
         """The name of the node with this number; the number itself if the road has no names."""
         number = self.numbered.number(number)
         return number if self._names is None else self._names[number - 1]
+
+    def nearest(self, longitude: float, latitude: float, end: bool = False) -> Tuple[Any, float]:
+        """The node that is nearest to a place in degrees (or to x and y in metres, if its places are so), and the metres to it.
+
+        It is one to start from, or with `end` one to arrive at, of crossings and stops that have several nodes. The road has its places by
+        `placed`; one without is a Failure (23 LengthsDiffer). The tree is SciPy's if it is there, and is made by the first call.
+        """
+        if self._places is None:
+            raise Failure(23, "the road has no places of nodes; road.placed(path) gives it those of a .co or a .nodes.csv")
+        number, metres = self._places.nearest(float(longitude), float(latitude), "end" if end else "start")
+        return self.name(number), metres
 
     def _is_one(self, nodes: Any) -> bool:
         """Whether this is one node and no list of them."""

@@ -12,7 +12,18 @@ from .importing.maps import Places
 from .importing.telling import Refused
 from .report import _is_stream, _part_beside
 
-__all__ = ["Refused", "coordinates_of", "names_of", "write_whole"]
+__all__ = ["Refused", "coordinates_of", "names_of", "places_of", "write_whole"]
+
+
+def places_of(path: str, nodes: int, degrees: bool) -> Places:
+    """The places of a road's nodes in a `.co` or a `.nodes.csv`, in degrees or metres."""
+    known = Places.read(path, "degrees" if degrees else None)
+    if known.unit == "plain":
+        raise Refused(f"{path} doesn't tell its unit; degrees=True takes it as millionths of a degree")
+    wrong = next((node for node in known.nodes if not 1 <= node <= nodes), None)
+    if wrong is not None:
+        raise Refused(f"{path} has a place for {wrong}, which is no node of the road, whose nodes are 1 to {nodes}")
+    return known
 
 
 def coordinates_of(path: str, nodes: int, degrees: bool) -> Tuple[Any, bool, Dict[str, Any]]:

@@ -16,7 +16,7 @@ from .importing import writing
 from .importing.maps import Places
 from .importing.telling import Refused, ended
 
-__all__ = ["Places", "main"]
+__all__ = ["Places", "Refused", "main"]
 
 
 def pair_of(text):

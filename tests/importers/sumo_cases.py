@@ -145,7 +145,7 @@ def standing_edges(room):
 
 
 def kinds_of_data(room):
-    """Edge data of any root, as SUMO wrote them over the years; an interval to SUMO's greatest time goes on until the end of the period."""
+    """Edge data of any root, as SUMO wrote them over the years; an interval to SUMO's greatest time ends with the period."""
     edges = {"a": (300.0, 10.0, ""), "b": (200.0, 10.0, "")}
     put(room, "town.net.xml", net(edges, [("a", "b")]))
     whole = data([(0, 60, {"a": 'speed="5"'}), (60, 120, {"a": 'speed="2.5"', "b": 'traveltime="100"'})])

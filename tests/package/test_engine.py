@@ -560,6 +560,48 @@ class Values(Case):
         for name in earliest.__all__:
             self.assertTrue(hasattr(earliest, name))
 
+    def test_nearest(self):
+        """The nearest node of a road with places, beside a look at all of them: of tables and .co, split crossings, with names, as a pickle."""
+        import math
+        import random
+        import tempfile
+
+        from earliest.nearest import Refused
+
+        draw = random.Random(7)
+        places = {node: (11 + draw.random(), 44 + draw.random()) for node in range(1, 41)}
+        uses = {node: draw.choice(["both", "both", "start", "end", "turn"]) for node in places}
+        road = earliest.Road.of_arcs(40, [], [], [])
+
+        def sight(place):
+            east, north = map(math.radians, place)
+            return math.cos(north) * math.cos(east), math.cos(north) * math.sin(east), math.sin(north)
+
+        def metres(first, second):
+            return 6371008.8 * 2 * math.asin(math.dist(sight(first), sight(second)) / 2)
+
+        with tempfile.TemporaryDirectory() as room:
+            table, co = os.path.join(room, "x.nodes.csv"), os.path.join(room, "x.co")
+            with open(table, "w", encoding="utf-8") as file:
+                file.write("node,id,longitude,latitude,use\n" + "".join(f"{node},{node},{x:.9f},{y:.9f},{uses[node]}\n" for node, (x, y) in places.items()))
+            with open(co, "w", encoding="ascii") as file:
+                file.write("p aux sp co 40\n" + "".join(f"v {node} {round(1e6 * x)} {round(1e6 * y)}\n" for node, (x, y) in places.items()))
+            tabled, flat_ = road.placed(table), road.placed(co, degrees=True)
+            for _ in range(60):
+                asked = 11 + draw.random(), 44 + draw.random()
+                for other, end, fit in ((tabled, False, ("both", "start")), (tabled, True, ("both", "end")), (flat_, False, None)):
+                    want = min((metres(asked, place), node) for node, place in places.items() if fit is None or uses[node] in fit)
+                    for it in (other, pickle.loads(pickle.dumps(other)), copy.copy(other)):
+                        node, far = it.nearest(*asked, end=end)
+                        self.assertEqual(node, want[1])
+                        self.assertAlmostEqual(far, want[0], delta=0.2)
+                    self.assertEqual(other.named([f"n{node}" for node in places]).nearest(*asked, end)[0], f"n{want[1]}")
+                    self.assertEqual(other.named([f"n{node}" for node in places]).numbered.nearest(*asked, end)[0], want[1])
+            self.refused(23, lambda: road.nearest(11, 44))
+            for why, call in (("unit", lambda: road.placed(co)), ("isn't there", lambda: road.placed(os.path.join(room, "none.co"))), ("no place", lambda: tabled.nearest(200, 0)), ("no place", lambda: tabled.nearest(math.nan, 0)),
+                              ("no node of the road", lambda: earliest.Road.of_arcs(39, [], [], []).placed(table))):
+                self.told(Refused, why, call)
+
     def test_each_call_has_words_and_types(self):
         """Each public call has a docstring, and its parameters and result have types."""
         import inspect

@@ -83,6 +83,11 @@ class Wheel(Case):
         self.assertIn("Typing :: Typed", told.get_all("Classifier"))
         self.assertIn("numpy", told.get_all("Provides-Extra"))
         self.assertIn("numpy >= 1.20; extra == 'numpy'", told.get_all("Requires-Dist"))
+        # Each command for files is a console script.
+        from earliest.__main__ import COMMANDS
+
+        scripts = texts[f"{info}/entry_points.txt"].decode().splitlines()
+        self.assertEqual((scripts[0], sorted(scripts[1:])), ("[console_scripts]", sorted(f"earliest-{name} = {module}:main" for name, module in COMMANDS.items())))
         # Without an extra nothing is asked for.
         self.assertTrue(all("extra ==" in it for it in told.get_all("Requires-Dist")))
         import base64
@@ -172,6 +177,11 @@ class Wheel(Case):
         self.assertEqual(run("-c", ASK), (0, f"{earliest.__version__} [2, 3, 4]\n", ""))
         self.assertEqual(run("-m", "earliest", "--version"), (0, earliest.__version__ + "\n", ""))
         self.assertEqual(run("-c", "import importlib.metadata as it; print(it.version('earliest'))"), (0, earliest.__version__ + "\n", ""))
+        scripts = run("-c", "import sysconfig; print(sysconfig.get_path('scripts'))")[1].strip()
+        status, told, _ = run(os.path.join(scripts, "earliest-osm"), "osm/town.osm", os.path.join(self.room.name, "town"), "--reader", "python")
+        self.assertEqual((status, "town.gr" in told, os.path.isfile(os.path.join(self.room.name, "town.gr"))), (0, True, True))
+        status, told, why = run(os.path.join(scripts, "earliest-gtfs"), "nowhere", "20261123", os.path.join(self.room.name, "none"))
+        self.assertEqual((status, told, why), (1, "", "gtfs: nowhere isn't there\n"))
 
     def test_editable(self):
         """`pip install -e` follows the sources. It is made without a library too, and then the first call says what is missing."""
