@@ -3,7 +3,7 @@ import os
 import random
 import shutil
 
-from support import ROOT, engine, good, put, ran
+from support import ROOT, engine, good, put, ran, there
 
 ROUNDS = 40
 PIECES = (b"-", b"9", b"99999999999999999999", b"nan", b"inf", b"1e400", b'"', b",", b"\n", b"\x00", b"<a>", b" ", b"-1", b"0")
@@ -68,6 +68,8 @@ def imports(room):
     for seed in range(ROUNDS):
         draw = random.Random(seed)
         faults.append(networks(room, "osm", [put(room, "x.osm", damaged(draw, osm)), out, "--reader", "python", *draw.choice([[], ["--turns"], ["--largest"], ["--keep-nodes"]])]))
+        if there("osmium"):
+            faults.append(networks(room, "osm", [os.path.join(room, "x.osm"), out, "--reader", "pyosmium"]))
         faults.append(networks(room, "osm", [os.path.join(examples, "osm", "town.osm"), out, "--reader", "python", "--profile", put(room, "x.ini", damaged(draw, profile))]))
         faults.append(networks(room, "sumo", [put(room, "x.net.xml", damaged(draw, net)), out]))
         faults.append(networks(room, "sumo", [os.path.join(examples, "sumo", "town.net.xml"), out, "--data", put(room, "d.xml", damaged(draw, data))]))

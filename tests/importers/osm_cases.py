@@ -488,6 +488,12 @@ def missing_nodes(room):
     told = imported(room, town, "--keep-nodes")
     yield "ways are cut where a node is missing", sorted({tuple(sorted((int(row["from"]), int(row["to"])))) for row in table(room, "town.arcs.csv")}), [(1, 2), (3, 4), (4, 5)]
     yield "missing nodes are told", summary_has(told, "2 nodes of ways without coordinates"), True
+    yield "nothing is there more than once", summary_has(told, "more than once"), False
+    whole = town.xml()
+    again = "".join(row for row in whole.splitlines(True) if '<node id="3"' in row or '<way id="2"' in row)
+    for reader in ("auto", "python"):
+        told = good("osm", put(room, "again.osm", whole.replace("</osm>", again + again + "</osm>")), os.path.join(room, "again"), "--profile", os.path.join(room, "test.ini"), "--reader", reader)
+        yield f"what is there more than once is told by {reader}", [summary_has(told, part) for part in ("2 nodes that the file has more than once", "2 ways that the file has more than once")], [True, True]
 
 
 def readers(room):
@@ -594,7 +600,8 @@ def hostile(room):
         *told, reason = refused("osm", room, file, os.path.join(room, "out"), *words)
         yield f"refused: {name}", (*told, part in reason), (True, True, [], True)
     if there("osmium"):
-        for name, file in (("XML cut in the middle", "cut.osm"), ("an empty file", "empty.osm"), ("no roads", "none.osm"), ("bytes that aren't bz2", "not.osm.bz2"), ("an id that is no number", "word.osm")):
+        put(room, "nan.osm", whole.replace('lon="', 'lon="nan', 1))
+        for name, file in (("a coordinate that is none", "nan.osm"), ("XML cut in the middle", "cut.osm"), ("an empty file", "empty.osm"), ("no roads", "none.osm"), ("bytes that aren't bz2", "not.osm.bz2"), ("an id that is no number", "word.osm")):
             *told, reason = refused("osm", room, os.path.join(room, file), os.path.join(room, "out"), "--reader", "pyosmium", "--profile", profile)
             yield f"refused by pyosmium: {name}", (*told, bool(reason)), (True, True, [], True)
         fake = put(room, "fake.osm.pbf", b"\x00\x00\x00\x0dnothing like it")

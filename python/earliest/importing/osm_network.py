@@ -59,11 +59,13 @@ class Extract:
         self.index = self.ids.places(self.refs)
         self.refs = None
         self.x, self.y = array("i", bytes(4 * len(self.ids))), array("i", bytes(4 * len(self.ids)))
-        self.flags = bytearray(len(self.ids))
+        self.flags, self.repeated = bytearray(len(self.ids)), 0
         self._waiting = (array("q"), array("i"), array("i"))
         source.nodes(self._node)
         self._placed()
         missing = len(self.ids) - sum(1 for flag in self.flags if flag & KNOWN)
+        summary.leave("nodes that the file has more than once: the last place holds", count=self.repeated)
+        summary.take("ways that the file has more than once, taken as often", len(self.way_ids) - len(Ids(self.way_ids)))
         if missing:
             summary.leave("nodes of ways without coordinates in the file; the ways are cut there", count=missing)
 
@@ -157,6 +159,8 @@ class Extract:
             for mine, given in ((self.x, xs), (self.y, ys)):
                 numpy.frombuffer(mine, dtype=numpy.int32)[places] = numpy.frombuffer(given, dtype=numpy.int32)[hit]
             flags = numpy.frombuffer(self.flags, dtype=numpy.uint8)
+            new = numpy.unique(places)
+            self.repeated += len(places) - int(numpy.count_nonzero(flags[new] & KNOWN == 0))
             flags[places] |= KNOWN
             del flags
         else:
@@ -164,6 +168,7 @@ class Extract:
                 place = self.ids.find(number)
                 if place >= 0:
                     self.x[place], self.y[place] = x, y
+                    self.repeated += self.flags[place] & KNOWN
                     self.flags[place] |= KNOWN
         self._waiting = (array("q"), array("i"), array("i"))
 

@@ -80,7 +80,7 @@ class Source:
         handler = type("Handler", (self.osmium.SimpleHandler,), {name: staticmethod(call) for name, call in calls.items()})()
         try:
             handler.apply_file(self.path)
-        except (RuntimeError, ValueError) as fault:
+        except (RuntimeError, ValueError, self.osmium.InvalidLocationError) as fault:
             if isinstance(fault, UnicodeDecodeError):
                 raise Refused(f"{self.path} has a text that isn't UTF-8") from None
             raise Refused(f"{self.path} can't be read as OpenStreetMap data: {fault}") from None
