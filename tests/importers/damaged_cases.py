@@ -81,7 +81,7 @@ def imports(room):
         put(feed, table, damaged(draw, read(feed, table)))
         faults.append(networks(room, "gtfs", [feed, "20261123", out, "--walk", "400", *draw.choice([[], ["--change", "60"]])]))
     yield "damaged inputs", [fault for fault in faults if fault], []
-    yield "how many were tried", len(faults), 6 * ROUNDS
+    yield "how many were tried", len(faults), (7 if there("osmium") else 6) * ROUNDS
 
 
 def reports(room):
