@@ -136,7 +136,7 @@ def add_runs(table, number, trip, route, calls, shifts, asked, summary):
         summary.leave("trips that don't run on the days asked")
 
 
-MOST_DAYS, MOST_HEADWAYS = 1_000, 10_000_000
+MOST_DAYS, MOST_HEADWAYS = 1_000, 2_000_000
 """Of days asked, and of departures by headways: what a command may take of time and memory."""
 USUAL = {"days": 1, "back": 2, "unit": "hundredths", "change": 0, "stations": None, "walk": None, "pace": 1.2, "detour": 1.3, "streets": None, "routes": None, "types": None, "box": None, "starts": (), "goals": ()}
 """What is asked if nobody says otherwise."""

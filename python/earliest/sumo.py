@@ -227,7 +227,7 @@ class Speeds:
             if place and begin < found[place - 1][1]:
                 raise Refused(f"the edge data have two intervals at {begin:g} for edge {number!r}; give those of one kind (one id of <interval>)")
             if period < end < math.inf or begin >= period:
-                raise Refused(f"the edge data go on until {end:g}, beyond the period of {period:g} seconds; give a longer --period")
+                raise Refused(f"the edge data have an interval from {begin:g} to {end:g}, beyond the period of {period:g} seconds; give a longer --period")
             marks[begin] = speed
             if end < period:
                 marks.setdefault(end, free)

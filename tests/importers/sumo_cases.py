@@ -256,6 +256,7 @@ def hostile(room):
         ("data without intervals", path, ["--data", put(room, "d2.xml", "<meandata/>")], "no <interval>"),
         ("data of other edges", path, ["--data", put(room, "d3.xml", data([(0, 60, {"q": 'speed="1"'})]))], "no speed of an edge"),
         ("data beyond the period", path, ["--data", put(room, "d4.xml", data([(0, 90000, {"a": 'speed="1"'})]))], "longer --period"),
+        ("data from beyond the period on", path, ["--period", "400", "--data", put(room, "d8.xml", data([(400, 9223372036854774.784, {"a": 'speed="1"'})]))], "from 400 to inf, beyond the period of 400"),
         ("intervals that overlap", path, ["--data", put(room, "d5.xml", data([(0, 60, {"a": 'speed="1"'}), (30, 90, {"a": 'speed="2"'})]))], "one id of <interval>"),
         ("an interval that ends before it begins", path, ["--data", put(room, "d6.xml", data([(60, 0, {"a": 'speed="1"'})]))], "begins at"),
         ("a vehicle that nobody knows", put(room, "bus.net.xml", net({"e": EDGES["e"]}, [])), ["--vehicle", "tram"], "no edge that a tram"),
