@@ -15,6 +15,7 @@ import time
 
 sys.dont_write_bytecode = True
 import page
+import prepared_turns
 import programs
 import python_search
 import traps
@@ -80,6 +81,8 @@ class Bench:
             network.make_asked(self.built, 1_000, 100, 5_000)
             self.networks.append(network)
         self.built.build_timing(self.networks[0])
+        tell = lambda text: print(text[-2000:], file=sys.stderr)
+        self.prepared_programs = prepared_turns.built(self.options.scratch, self.networks[0].gr, self.networks[0].pairs, tell)
 
     def of_network(self, network):
         rounds = self.options.rounds if network.nodes <= 1_000_000 else min(3, self.options.rounds)
@@ -109,13 +112,24 @@ class Bench:
         self.turns("check", jobs(self.built, network, report), rounds, same=False)
         os.remove(report)
 
+    def prepared(self):
+        """Pairs over a prepared road, on the largest network up to 10^6 nodes."""
+        if None in self.prepared_programs:
+            self.built.left_out.append("pairs over a prepared road (g++ and the toolchain `rt` are needed)")
+            return
+        rows = prepared_turns.measured(*self.prepared_programs, self.built.hand, self.largest().gr, self.options.scratch)
+        written("prepared", rows, prepared_turns.FIELDS)
+
+    def largest(self):
+        """The largest network of up to 10^6 nodes."""
+        return max((it for it in self.networks if it.nodes <= 1_000_000), key=lambda it: it.nodes)
+
     def python(self):
         """The Python package, if the library is built, on the largest network up to 10^6 nodes."""
         if not python_search.is_there():
             self.built.left_out.append("the Python package (make lib builds it)")
             return
-        network = max((it for it in self.networks if it.nodes <= 1_000_000), key=lambda it: it.nodes)
-        rows = python_search.measured(network, self.built, self.options.rounds)
+        rows = python_search.measured(self.largest(), self.built, self.options.rounds)
         written("python", rows, python_search.FIELDS)
         print("python: done", flush=True)
 
@@ -149,6 +163,7 @@ def main():
     cleared()
     for network in bench.networks:
         bench.of_network(network)
+    bench.prepared()
     bench.python()
     bench.said("matrix", "numpy")
     bench.said("asked_matrix", "numpy", "--scratch", options.scratch)

@@ -4,6 +4,7 @@ import sys
 
 sys.dont_write_bytecode = True
 import plots
+import prepared_turns
 from measure import rows_of, spread
 from programs import BASE, ROOT, SEVERAL
 
@@ -55,6 +56,14 @@ write the reports in their order. Ratios are to the base with one thread.
 PAIRS = """## Pairs
 
 Pairs whose search reaches about 1,000 nodes each, by hand with a stamp beside each label; whole runs, and solving alone.
+"""
+
+PREPARED = """## Pairs over a prepared road
+
+300 pairs each, departing at 0 on plain weights: by Dijkstra rank, the target being the 2^r-th node that a search settles, and far ones at
+random. Ours is timed by a proved program (`bench/prepared/program`), on the road prepared and as it is; beside it is the same method in plain
+C++ (`bench/prepared/hand.cpp`), which numbers its network by its order. Microseconds a pair, the least, middle and greatest of six rounds;
+the preparation in milliseconds.
 """
 
 ASKED = """## Asked nodes
@@ -233,6 +242,30 @@ def pairs(rows, rounds):
     return out
 
 
+def prepared(rows):
+    """Pairs over a prepared road, beside the same search without, and a program in plain C++."""
+    if not rows:
+        return []
+    found = {(row["pairs"], row["program"]): row for row in rows}
+    names = list(dict.fromkeys(row["pairs"] for row in rows))
+    out = [PREPARED, f"**{int(rows[0]['nodes']):,} nodes**", "", "| pairs | in plain C++ | earliest | beside C++ | unprepared | as quick |", "|" + "---|" * 6]
+    lines = {}
+    for name in names:
+        scale = 1 / 1000 if name == "preparation" else 1
+        cells, middles = [name], {}
+        for program in (prepared_turns.CPP, prepared_turns.LED, prepared_turns.PLAIN):
+            row = found.get((name, program))
+            middles[program] = float(row["middle"]) if row else None
+            cells.append(" / ".join(f"{float(row[it]) * scale:.4g}" for it in ("least", "middle", "greatest")) if row else "")
+            if row and name.startswith("2^"):
+                lines.setdefault(program, []).append((2 ** int(name[2:]), middles[program]))
+        base, ours, plain = middles.values()
+        cells[3:] = [f"{ours / base:.2f}", cells[3], f"{plain / ours:.1f} times" if plain else ""]
+        out.append("| " + " | ".join(cells) + " |")
+    drawn("pairs-by-rank", "Pairs by Dijkstra rank, microseconds each", "rank of the target", "microseconds", list(lines.items()))
+    return [*out, "", "![pairs by Dijkstra rank](pictures/pairs-by-rank.svg)", ""]
+
+
 def asked(rows, rounds):
     out = [ASKED]
     for at, these in shown(groups(rows, "seconds")):
@@ -368,7 +401,7 @@ def main():
     for part, rows in parts:
         if rows:
             text += part(rows, rounds_of(rows))
-    text += embedded(rows_of("python")) + said() + rings(rows_of("traps"))
+    text += prepared(rows_of("prepared")) + embedded(rows_of("python")) + said() + rings(rows_of("traps"))
     pictures(whole, many)
     with open(os.path.join(ROOT, "docs", "performance.md"), "w", encoding="utf-8") as file:
         file.write("\n".join(text).rstrip() + "\n")

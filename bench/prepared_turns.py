@@ -1,10 +1,11 @@
 """Times searches of pairs over a prepared road beside a program in plain C++, in turns.
 
-    python3 bench/prepared_turns.py [SCRATCH [GRAPH PAIRS [ROUNDS]]]
+    python3 bench/prepared_turns.py [SCRATCH [GRAPH]]
 
-Without a graph it makes a road-like network of 10^6 nodes and 300 far pairs. Both programs are built, run in turns on the
-same files, and have to reach all targets at the same times. It prints, in microseconds a pair, the least, the middle and the
-greatest of the rounds, and the middle beside that of C++.
+Without a graph it makes a road-like network of 10^6 nodes. Pairs are by Dijkstra rank, the target being the 2^r-th node that a
+search from the source settles, and far ones at random. Both programs are built, run in turns on the same files, and have to reach all
+targets at the same times; ours searches without the preparation, too. It prints the least, the middle and the greatest of the rounds, in
+microseconds a pair. `make bench` writes the same as a table and a picture of the page.
 """
 import os
 import random
@@ -14,63 +15,84 @@ import subprocess
 import sys
 
 sys.dont_write_bytecode = True
+import programs
 import workspace
 
-HERE = os.path.dirname(os.path.abspath(__file__))
-CPP = ["g++", "-O3", "-march=x86-64-v2", "-std=c++17", "-DNDEBUG"]
-FAR_PAIRS = 300
+FIELDS = ("nodes", "pairs", "program", "least", "middle", "greatest")
+RANKS, FAR, COUNT, TURNS = (10, 12, 14, 16, 18), "far", 300, 2
+CPP, LED, PLAIN = "in plain C++", "earliest", "earliest, unprepared"
 
 
-def made(scratch):
-    """A road-like network of 10^6 nodes, and far pairs."""
-    generate, base = os.path.join(scratch, "generate"), os.path.join(scratch, "prepared")
-    subprocess.run(["rustc", "--edition", "2024", "-O", os.path.join(HERE, "generate.rs"), "-o", generate], check=True)
-    subprocess.run([generate, "2500000", base], check=True)
-    with open(f"{base}.gr", encoding="ascii") as file:
+def pairs_of(hand, graph, scratch):
+    """Files of pairs: by rank, and far ones."""
+    with open(graph, encoding="ascii") as file:
         nodes = int(next(line for line in file if line.startswith("p")).split()[2])
-    words = random.Random(7)
-    with open(f"{base}.p2p", "w", encoding="ascii") as file:
-        file.write(f"p aux sp p2p {FAR_PAIRS}\n")
-        file.writelines(f"q {words.randint(1, nodes)} {words.randint(1, nodes)}\n" for _ in range(FAR_PAIRS))
-    return f"{base}.gr", f"{base}.p2p"
+    files = {}
+    for rank in RANKS:
+        if 2**rank <= nodes:
+            files[f"2^{rank}"] = os.path.join(scratch, f"rank{rank}.p2p")
+            subprocess.run([hand, "make_pairs", graph, files[f"2^{rank}"], str(COUNT), str(2**rank)], check=True)
+    files[FAR], words = os.path.join(scratch, "far.p2p"), random.Random(7)
+    with open(files[FAR], "w", encoding="ascii") as file:
+        file.write(f"p aux sp p2p {COUNT}\n")
+        file.writelines(f"q {words.randint(1, nodes)} {words.randint(1, nodes)}\n" for _ in range(COUNT))
+    return nodes, files
 
 
 def timed(program, graph, pairs):
-    """The microseconds a pair of each led round of a program, and the sums of its arrivals."""
+    """The microseconds of the preparation, those a pair of each round, led and not, and the sums of the arrivals."""
     said = subprocess.run([program, graph, pairs], capture_output=True, text=True, check=True).stdout
-    found = re.findall(r"(\d+) pairs in (\d+) us, led true, sum (\d+)", said)
-    return [int(micros) / max(1, int(count)) for count, micros, _ in found], {int(total) for _, _, total in found}
+    found = re.findall(r"(\d+) pairs in (\d+) us, led (true|false), sum (\d+)", said)
+    prepared = re.search(r"prepared \d+ nodes in (\d+) us", said)
+    if not prepared:
+        sys.exit(f"{program} prepared nothing: {said}")
+    led, plain = ([int(micros) / max(1, int(count)) for count, micros, it, _ in found if it == word] for word in ("true", "false"))
+    return int(prepared[1]), led, plain, {int(total) for *_, total in found}
 
 
-def compared(programs, graph, pairs, rounds):
-    """The times of each program by name, in turns."""
-    times, sums = {name: [] for name in programs}, set()
-    for _ in range(rounds):
-        for name, program in programs.items():
-            some, totals = timed(program, graph, pairs)
-            times[name] += some
-            sums |= totals
-    if len(sums) != 1:
-        sys.exit(f"the arrivals differ: their sums are {sorted(sums)}")
-    return times
+def measured(cpp, ours, hand, graph, scratch):
+    """A row of times for each file of pairs and program, and one for the preparations."""
+    nodes, files = pairs_of(hand, graph, scratch)
+    rows, prepared = [], {CPP: [], LED: []}
+    for name, pairs in files.items():
+        times, sums = {CPP: [], LED: [], PLAIN: []}, set()
+        for _ in range(TURNS):
+            for program, it in ((CPP, cpp), (LED, ours)):
+                took, led, plain, totals = timed(it, graph, pairs)
+                prepared[program].append(took)
+                times[program] += led
+                times[PLAIN] += plain
+                sums |= totals
+        if len(sums) != 1:
+            sys.exit(f"the arrivals of {name} differ: their sums are {sorted(sums)}")
+        rows += [(nodes, name, program, *spread(some)) for program, some in times.items()]
+        print(f"prepared: pairs {name}, done", flush=True)
+    return rows + [(nodes, "preparation", program, *spread(some)) for program, some in prepared.items()]
+
+
+def spread(some):
+    return [f"{it:.1f}" for it in (min(some), statistics.median(some), max(some))]
+
+
+def built(scratch, graph, pairs, tell=None):
+    """The program in plain C++ and ours; None for one that can't be built."""
+    cpp = os.path.join(scratch, "prepared_hand")
+    if not programs.compiled([*programs.CPP, os.path.join(programs.HERE, "prepared", "hand.cpp"), "-o", cpp]):
+        cpp = None
+    return cpp, workspace.built("prepared", scratch, [graph, pairs], *([tell] if tell else []))
 
 
 def main():
     words = sys.argv[1:]
     scratch = words[0] if words else workspace.SCRATCH
-    os.makedirs(scratch, exist_ok=True)
-    graph, pairs = words[1:3] if len(words) > 2 else made(scratch)
-    by_hand = os.path.join(scratch, "prepared_hand")
-    subprocess.run([*CPP, os.path.join(HERE, "prepared", "hand.cpp"), "-o", by_hand], check=True)
-    ours = workspace.built("prepared", scratch, [graph, pairs])
-    if ours is None:
-        sys.exit("the timing program isn't built")
-    times = compared({"by hand": by_hand, "earliest": ours}, graph, pairs, int(words[3]) if len(words) > 3 else 3)
-    base = statistics.median(times["by hand"])
-    print("program    least  middle  greatest  beside by hand")
-    for name, some in times.items():
-        middle = statistics.median(some)
-        print(f"{name:9} {min(some):6.0f}  {middle:6.0f}  {max(some):8.0f}  {middle / base:14.2f}")
+    made = programs.Programs(scratch)
+    graph = words[1] if len(words) > 1 else programs.Network(made, 1_000_000).gr
+    _, files = pairs_of(made.hand, graph, scratch)
+    cpp, ours = built(scratch, graph, files["2^10"])
+    if None in (cpp, ours):
+        sys.exit("a program isn't built: g++ and the toolchain `rt` are needed")
+    for row in measured(cpp, ours, made.hand, graph, scratch):
+        print(" ".join(f"{it:>12}" for it in row))
 
 
 if __name__ == "__main__":
