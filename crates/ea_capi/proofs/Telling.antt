@@ -7,10 +7,6 @@ use Rattle.ea_road.specs.Queries.{IsAskedBy}
 use Rattle.ea_search.specs.Answers.{Answered, arrival_of}
 use Rattle.ea_capi.specs.Latest.{departure_of}
 
--- The first places have the labels of their nodes.
-pub record AreWritten (answer : Answered) (out : List ℕ) (count : ℕ) : Type 0 where
-  pub each : (node : ℕ) → 0 < node → node ≤ count → time_of (slice_index out (node - 1)) ≡ arrival_of answer node
-
 -- The first places have the latest departures of their nodes.
 pub record AreDepartures (answer : Answered) (out : List ℕ) (count : ℕ) : Type 0 where
   pub each : (node : ℕ) → 0 < node → node ≤ count → time_of (slice_index out (node - 1)) ≡ departure_of answer node

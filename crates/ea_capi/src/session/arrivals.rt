@@ -85,16 +85,11 @@ pub(crate) fn asks_all(answer: &Answer) -> bool
 
 /// Writes the labels of all nodes.
 fn write_labels(answer: &Answer, out: &mut [u64])
-    requires room { length out.old ≡ answer.now.nodes }
-    requires asked { (node : ℕ) → IsNode answer.now.nodes node → IsAskedBy answer.now.target node }
-    requires nodes { length out.old < 4294967296 }
-    ensures length { length out.new ≡ length out.old }
-    ensures labels { (node : ℕ) → IsNode answer.now.nodes node →
+    requires { length out.old ≡ answer.now.nodes }
+    ensures { (node : ℕ) → IsNode answer.now.nodes node →
         time_of (slice_index out.new (node - 1)) ≡ arrival_of answer.now node }
 {
-    for place in 0..out.len() {
-        out[place] = label_in(answer, place as u32 + 1);
-    }
+    out.copy_from_slice(answer.labels());
 }
 
 /// Writes all arrivals of an answer. Returns 0 or the refusal's number.
