@@ -12,6 +12,8 @@ HERE = os.path.dirname(os.path.abspath(__file__))
 EXAMPLES = os.path.join(HERE, "..", "..", "examples")
 FILES = ["four-nodes.gr", "four-nodes.ss"]
 NOBODY = 65534
+# How late a network comes, in seconds: progress is reported from the first on.
+PAUSE = 2.0
 
 
 def read(*path):
@@ -46,6 +48,13 @@ def streams(program, folder):
         yield f"-o {name} >> log", (status, read(log)), ((0, b""), b"before\n" + REPORT)
     yield "/dev/stdout is still a link", os.path.islink("/dev/stdout"), True
     yield "-o /dev/stderr", ran(program, ["run", *FILES, "-o", "/dev/stderr"]), (0, b"", REPORT)
+    for name in ("/dev/stderr", "/dev/fd/2"):
+        with open(log, "wb") as file:
+            file.write(b"before\n")
+        with open(log, "ab") as file:
+            status = ran(program, ["run", *FILES, "-o", name], stderr=file)[:2]
+        yield f"-o {name} 2>> log", (status, read(log)), ((0, b""), b"before\n" + REPORT)
+    yield "/dev/stderr is still a link", os.path.islink("/dev/stderr"), True
     reader, writer = os.pipe()
     yield "-o /dev/fd/N, a pipe", ran(program, ["run", *FILES, "-o", f"/dev/fd/{writer}"], pass_fds=(writer,)), (0, b"", b"")
     os.close(writer)
@@ -74,6 +83,16 @@ def closed(program, folder):
             os.remove(out)
     run = subprocess.run([program, "run", "-", FILES[1]], cwd=EXAMPLES, preexec_fn=close(0), stdout=subprocess.PIPE, stderr=subprocess.PIPE, timeout=60)
     yield "- without standard input", (run.returncode, run.stdout, run.stderr), (1, b"", b"earliest: gr 0: 1 NoProblemLine\n")
+    run = subprocess.run([program, "run", *FILES], cwd=EXAMPLES, preexec_fn=close(1), stderr=subprocess.PIPE, timeout=60)
+    yield "a report without standard output", (run.returncode, run.stderr), (0, b"")
+    # The network comes so late that lines of progress are written: none of them gets into the report.
+    pipe = os.path.join(folder, "late")
+    os.mkfifo(pipe)
+    with subprocess.Popen([program, "run", pipe, os.path.join(EXAMPLES, FILES[1]), "-o", out, "--progress"], preexec_fn=close(0, 1, 2), **bare) as run:
+        with open(pipe, "wb") as late:
+            time.sleep(PAUSE)
+            late.write(read(EXAMPLES, FILES[0]))
+        yield "progress without descriptors", (run.wait(60), read(out)), (0, REPORT)
 
 
 def named(program, folder):
@@ -149,6 +168,14 @@ def parts(program, folder):
     first, writer = begun(program, folder, name)
     yield "a run beside another", (ran(program, words), sorted(os.listdir(place)), read(name)), ((0, b"", b""), ["report", "report.part0"], REPORT)
     yield "the other one goes on", (ended(first, writer), sorted(os.listdir(place)), read(name)), ((0, b"", b""), ["report"], REPORT)
+    os.remove(name)
+    run, writer = begun(program, folder, name)
+    os.mkdir(name)
+    status, out, errors = ended(run, writer)
+    said = f"earliest: the whole report is in {name}.part0\nearliest: 12 WriteFailed after ".encode()
+    yield "a file that became a folder", (status, out, errors[: len(said)], read(name + ".part0")), (4, b"", said, REPORT)
+    os.rmdir(name)
+    os.remove(name + ".part0")
     for number in range(1200):
         open(os.path.join(place, f"report.part{number}"), "wb").close()
     yield "1,200 part files", (ran(program, words), len(os.listdir(place)), read(name)), ((0, b"", b""), 1200, REPORT)
