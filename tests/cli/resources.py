@@ -94,36 +94,86 @@ def directions(program, folder):
         yield grows(f"resources: {words} beside a plain run", plain, seconds(program, words, folder), 3)
 
 
+def processor_time(pid):
+    """The processor seconds that a process has taken so far."""
+    with open(f"/proc/{pid}/stat", encoding="ascii") as file:
+        fields = file.read().rpartition(")")[2].split()
+    return (int(fields[11]) + int(fields[12])) / os.sysconf("SC_CLK_TCK")
+
+
 def slow_reader(program, folder):
-    """Hundreds of reports, and a reader that stops after the first byte: few reports are made ahead."""
+    """Hundreds of reports, and a reader that stops after the first byte: few reports are made ahead, and then no thread waits busily."""
     write(folder, "many.ss", ["p aux sp ss 400\n", *[f"s {at}\n" for at in range(1, 401)]])
     words = "run net.gr many.ss --at-once 4"
     with subprocess.Popen([program, *words.split()], cwd=folder, stdin=subprocess.DEVNULL, stdout=subprocess.PIPE) as run:
         run.stdout.read(1)
         time.sleep(WAIT)
+        before = processor_time(run.pid)
+        time.sleep(1)
+        idle = processor_time(run.pid) - before
         with open(f"/proc/{run.pid}/status", encoding="ascii") as file:
             fields = dict(line.split(":", 1) for line in file)
         is_waiting = run.poll() is None
         run.kill()
     peak = int(fields["VmHWM"].split()[0]) // 1024
     yield f"resources: {words}, megabytes ahead of a slow reader", (is_waiting, peak <= 240 or peak), (True, True)
+    yield f"resources: {words}, processor time while nothing is read", idle <= 0.5 or idle, True
+
+
+def after_a_fault(program, folder):
+    """An output that fails at once ends every thread: thousands of reports into a full device take far less time than writing them."""
+    write_path(folder, "short.gr", 5000)
+    write(folder, "thousands.ss", ["p aux sp ss 4000\n", *[f"s {at}\n" for at in range(1, 4001)]])
+    words = "run short.gr thousands.ss --at-once 4"
+    whole, cut = seconds(program, words, folder), min(ran(program, f"{words} -o /dev/full", folder)[2] for _ in range(3))
+    yield "resources: 4,000 reports into a full device beside all of them", 3 * cut <= whole or (whole, cut), True
 
 
 def long_walks(program, folder):
-    """A path of 1,000 nodes from each of them, with walks: half a gigabyte of report in 200 MB."""
+    """A path of 1,000 nodes from each of them, with walks: half a gigabyte of report in 64 MB for each thread."""
     write_path(folder, "walks.gr", 1000)
     write(folder, "walks.ss", ["p aux sp ss 1000\n", *[f"s {node}\n" for node in range(1, 1001)]])
-    status, said, _, _, _, written = ran(program, "run walks.gr walks.ss --walks --at-once 4", folder, 256)
-    yield "resources: walks of a path from each node, in 256 MB", (status, said, written > 400 * MEGABYTE), (0, b"", True)
+    for at_once in (4, 16):
+        status, said, _, _, _, written = ran(program, f"run walks.gr walks.ss --walks --at-once {at_once}", folder, 64 * at_once)
+        yield f"resources: walks of a path from each node, {at_once} at once", (status, said, written > 400 * MEGABYTE), (0, b"", True)
 
 
-def near_pairs(program, folder):
-    """Pairs of near nodes on a long path: each puts back only the labels that it changed."""
-    write_path(folder, "long.gr", 2_000_000)
-    for name, pairs in (("one.p2p", 1), ("many.p2p", 5000)):
-        write(folder, name, [f"p aux sp p2p {pairs}\n", *[f"q {1 + 4 * at} {51 + 4 * at}\n" for at in range(pairs)]])
-    one, many = (seconds(program, f"pairs long.gr {name} --at-once 1", folder) for name in ("one.p2p", "many.p2p"))
-    yield grows("resources: 5,000 near pairs beside one, on 2,000,000 nodes", one, many, 3)
+def shared_walks(program, folder):
+    """Walks on a path, each of which is written from the one before, take far less time than as many bytes of walks that share nothing
+    with the one before: those of two paths that leave node 1, whose nodes have even numbers and odd ones."""
+    write_path(folder, "together.gr", 7071)
+    write(folder, "apart.gr", ["p sp 10001 10000\n", *[f"a {max(node - 2, 1)} {node} 1\n" for node in range(2, 10_002)]])
+    together, apart = (seconds(program, f"run {name}.gr one.ss --walks", folder) for name in ("together", "apart"))
+    yield "resources: walks of a path are written from the one before", 2 * together <= apart or (together, apart), True
+
+
+def alone(program, folder):
+    """One worker without statistics is the search of one thread, which takes far less time than a worker whose turns are counted."""
+    write(folder, "eight.ss", ["p aux sp ss 8\n", *[f"s {at}\n" for at in range(1, 9)]])
+    one, counted = (seconds(program, f"run net.gr eight.ss --workers 1 {words}", folder) for words in ("--at-once 1", "--stats --turns 1000000000"))
+    yield "resources: one worker without statistics is the search of one thread", 1.5 * one <= counted or (one, counted), True
+
+
+def made_once(program, folder):
+    """Reports made ahead by sixteen threads beside those of one: no report is made by all of them."""
+    write(folder, "hundred.ss", ["p aux sp ss 100\n", *[f"s {at}\n" for at in range(1, 101)]])
+    write_path(folder, "middle.gr", 20_000)
+    one, many = (seconds(program, f"run middle.gr hundred.ss --at-once {at_once}", folder) for at_once in (1, 16))
+    yield grows("resources: a hundred reports by sixteen threads beside one", one, many, 3)
+
+
+def near_problems(program, folder):
+    """Problems whose searches reach few nodes of a long path: each puts back only the labels that it changed, on the arrays of the one
+    before."""
+    nodes, many = 500_000, 5000
+    write_path(folder, "long.gr", nodes)
+    write(folder, "near.ss", ["p aux sp ss 20\n", *[f"s {node}\n" for node in range(20, 40)]])
+    for name, count in (("one", 1), ("many", many)):
+        write(folder, f"{name}.p2p", [f"p aux sp p2p {count}\n", *[f"q {1 + 4 * at} {51 + 4 * at}\n" for at in range(count)]])
+        write(folder, f"{name}-near.ss", [f"p aux sp ss {count}\n", *["s 1\n"] * count])
+    for words in ("pairs long.gr {}.p2p --at-once 1", "pairs long.gr {}.p2p --at-once 4", "pairs long.gr {}.p2p --at-once 1 --walks", "pairs long.gr {}.p2p --at-once 1 --arrive 100", "run long.gr {}-near.ss --nodes near.ss --at-once 1", "run long.gr {}-near.ss --nodes near.ss --at-once 4 --walks"):
+        one, all_of_them = (seconds(program, words.format(name), folder) for name in ("one", "many"))
+        yield grows(f"resources: {words.format('many')} beside one problem", one, all_of_them, 3)
 
 
 def long_lines(program, folder):
@@ -186,5 +236,5 @@ def layouts(program, folder):
 def results(program):
     """Each measure with whether it holds, or its figures, and True."""
     with tempfile.TemporaryDirectory(prefix="resources-") as folder:
-        for part in (network, directions, slow_reader, long_walks, near_pairs, long_lines, many_steps, hard_shapes, layouts):
+        for part in (network, directions, slow_reader, after_a_fault, made_once, long_walks, shared_walks, alone, near_problems, long_lines, many_steps, hard_shapes, layouts):
             yield from part(program, folder)
