@@ -5,6 +5,7 @@ import os
 import random
 import subprocess
 import tempfile
+import threading
 import time
 
 NODES, ARCS = 300_000, 900_000
@@ -41,11 +42,80 @@ def seen(program, words, folder, processors):
         return run.wait(timeout=100), most
 
 
+def tasks(run):
+    """The threads of a process that still runs."""
+    try:
+        return set(os.listdir(f"/proc/{run.pid}/task"))
+    except OSError:
+        return set()
+
+
+def reading(program, folder, processors):
+    """A run whose network comes through a pipe, on this many processors: its status, the most threads seen while all but the last lines
+    come, which read them, and the most seen after these, which make the network."""
+    pipe = os.path.join(folder, "pipe")
+    os.mkfifo(pipe)
+    with open(os.path.join(folder, "net.gr"), "rb") as file:
+        text = file.read()
+    front, come, last = text[: text.rindex(b"\n", 0, len(text) - 1000) + 1], threading.Event(), threading.Event()
+
+    def give():
+        try:
+            with open(pipe, "wb") as file:
+                for at in range(0, len(front), 2**20):
+                    file.write(front[at : at + 2**20])
+                file.flush()
+                come.set()
+                last.wait()
+                file.write(text[len(front) :])
+        except BrokenPipeError:
+            pass  # The run ended, and its status says how.
+
+    with subprocess.Popen([program, "run", pipe, "one.ss", "--workers", "1"], cwd=folder, stdin=subprocess.DEVNULL, stdout=subprocess.DEVNULL, preexec_fn=lambda: os.sched_setaffinity(0, processors)) as run:
+        giving = threading.Thread(target=give)
+        giving.start()
+        most = [0, 0]
+        while run.poll() is None and (not come.is_set() or len(tasks(run)) > 1):
+            most[0] = max(most[0], len(tasks(run)))
+        last.set()
+        while run.poll() is None:
+            most[1] = max(most[1], len(tasks(run)))
+        giving.join()
+    os.remove(pipe)
+    return run.returncode, *most
+
+
+def kept(program, folder):
+    """A run whose report is read somewhat more slowly than three threads make it: its status, and how many threads were seen in all. A
+    thread that has to wait for a moment stays; if it left, another one would be started for it."""
+    seen_so_far = set()
+    with subprocess.Popen([program, *"run net.gr net.ss --at-once 3".split()], cwd=folder, stdin=subprocess.DEVNULL, stdout=subprocess.PIPE) as run:
+        run.stdout.read(1)
+        while run.stdout.read(2**18):
+            time.sleep(0.002)
+            seen_so_far |= tasks(run)
+    return run.returncode, len(seen_so_far)
+
+
 def results(program):
     """Each run with its status and number of threads, and the expected ones."""
     here = sorted(os.sched_getaffinity(0))
     four = 4 if here[3:] else 1
     with tempfile.TemporaryDirectory(prefix="threads-") as folder:
+        write(folder, 12)
+        with open(os.path.join(folder, "one.ss"), "w", encoding="ascii") as file:
+            file.write("p aux sp ss 1\ns 1\n")
+        # One thread reads on one processor, and several on four; two make the network in any case.
+        for processors in (here[:1], here) if here[3:] else (here[:1],):
+            for _ in range(TRIES):
+                status, read, made = reading(program, folder, processors)
+                was = status, read == 1 if processors == here[:1] else read > 2, made >= 2
+                if was == (0, True, True):
+                    break
+            yield f"threads that read and make a network on {len(processors)} processors", (*was, read, made), (0, True, True, read, made)
+        write(folder, 30)
+        status, count = kept(program, folder)
+        yield "threads of a report that is read slowly", (status, count <= 9 or count), (0, True)
         write(folder, 12)
         for words, processors, wanted in (
             # One problem after another, each by one worker for each processor if there are four.
