@@ -12,6 +12,9 @@ STEPS = 65_536
 STEPPED_CLASSES = 16
 MANY = 100_000
 FAR_NODES = 5_000_000
+WALKED = 5_500
+# A thread keeps no longer text of reports that are made ahead.
+KEPT = 67_108_864
 
 
 def write(folder, name, parts):
@@ -113,6 +116,24 @@ def steps_report(departure):
     return "".join(lines)
 
 
+def write_walked(folder):
+    """A path from node 1, twice."""
+    write(folder, "walked.gr", [f"p sp {WALKED} {WALKED - 1}\n", *[f"a {node} {node + 1} 1\n" for node in range(1, WALKED)]])
+    write(folder, "walked.ss", ["p aux sp ss 2\ns 1\ns 1\n"])
+
+
+def walked_report():
+    """The walk to node V has the arcs 1 to V - 1. The text is longer than a thread keeps."""
+    lines, walk = ["s 1 0\n"], ""
+    for node in range(1, WALKED + 1):
+        lines.append(f"d {node} {node - 1}\nw {node} {node - 1}{walk}\n")
+        walk += f" {node}"
+    text = "".join(lines)
+    if len(text) <= KEPT:
+        raise ValueError("the report is too short")
+    return text
+
+
 def results(program, examples):
     """For each call its words, its result and the expected one."""
     with tempfile.TemporaryDirectory(prefix="earliest-") as folder:
@@ -141,6 +162,8 @@ def results(program, examples):
         yield ran("run far.gr far.ss --walks --workers 4", far)
         write(folder, "far.report", [far])
         yield ran("check far.gr far.ss far.report", "ok\n")
+        write_walked(folder)
+        yield ran("run walked.gr walked.ss --walks --at-once 2", 2 * walked_report())
         write_sources(folder)
         yield ran("run one.gr million.ss --joint", "s 1 0\n" * 1_000_000 + "d 1 0\n")
         four_nodes = os.path.join(examples, "four-nodes.gr")
