@@ -199,10 +199,12 @@ def pictures(room):
     yield "to standard output too", _stdout(room) == svg, True
     put(room, "d.co", "c coordinate unit: 1/1000000 degree\nv 1 10000000 60000000\nv 2 10002000 60000000\nv 3 10000000 60001000\n")
     put(room, "r", "s 1 0\nd 1 0\nd 2 5\nd 3 inf\n")
-    svg = good("isochrones", os.path.join(room, "r"), os.path.join(room, "d.co"), "--out", os.path.join(room, "d.svg")) and text(room, "d.svg")
-    dots = [tuple(map(float, it)) for it in re.findall(r'<circle cx="([\d.]+)" cy="([\d.]+)" r="[\d.]+"/>', svg)]
-    east, north = max(x for x, _ in dots) - min(x for x, _ in dots), max(y for _, y in dots) - min(y for _, y in dots)
-    yield "at 60 degrees north a degree of longitude is half as wide", abs(east / north - 1) < 0.01, True
+    svg = good("isochrones", os.path.join(room, "r"), os.path.join(room, "d.co"), "--band", "5", "--out", os.path.join(room, "d.svg")) and text(room, "d.svg")
+    dots = {colour: (float(x), float(y)) for colour, x, y in re.findall(r'<g fill="(#\w+)"><circle cx="([\d.]+)" cy="([\d.]+)" r="[\d.]+"/></g>', svg)}
+    here, east = dots.pop(colours[0]), dots.pop(colours[1])
+    (north,) = dots.values()
+    yield "east is on the right, and north above", (east[0] > here[0], east[1] == here[1], north[0] == here[0], north[1] < here[1]), (True,) * 4
+    yield "at 60 degrees north a degree of longitude is half as wide", abs((east[0] - here[0]) / (here[1] - north[1]) - 1) < 0.01, True
 
 
 def roads_in_the_picture(room):
