@@ -172,7 +172,8 @@ def services_of_days(room):
     """Weekdays, dates that are added and taken away, the range of a calendar, days without any trip."""
     trips = {"week": ("1", "week", line("A", "B", "C", start=7 * 3600)), "end": ("1", "end", line("A", "B", "C", start=8 * 3600)), "old": ("2", "old", line("A", "C", start=3600)), "fair": ("3", "fair", line("A", "C", start=9 * 3600))}
     feed = Feed(trips, {"week": ("1111100", "20260101", "20261231"), "end": ("0000011", "20260101", "20261231"), "old": ("1111111", "20250101", "20251231")}, exceptions=[("fair", "20261124", 1), ("week", "20261125", 2), ("end", "20261125", 1)])
-    for day in ("20261123", "20261124", "20261125", "20261128"):
+    # The first and the last day of the calendars are Thursdays.
+    for day in ("20260101", "20261123", "20261124", "20261125", "20261128", "20261231"):
         told = imported(room, feed, day=day)
         yield f"arrivals on {day}", compared(room, "net", feed, day, "ABC", TIMES), "all"
         yield f"trips that don't run on {day} are told", summary_has(told, "trips that don't run"), True
