@@ -3,6 +3,7 @@
 A case fails if the status, the standard output or the standard error differs in any byte.
 """
 import os
+import re
 import resource
 import shlex
 import subprocess
@@ -91,6 +92,19 @@ def scarce(program):
     return run.returncode, run.stdout, run.stderr
 
 
+def little_stack(program):
+    """Each command with a stack as small as the guide says: its status, its output and that with the usual stack."""
+    with open(os.path.join(HERE, "..", "..", "docs", "guide", "install.md"), encoding="utf-8") as page:
+        size = int(re.search(r"`ulimit -s (\d+)`", page.read())[1]) * 1024
+    road = "road.gr road.ss --tp road.tp"
+    for words in (f"run {road} --walks --at-once 4", f"run {road} --stats --workers 16", f"run {road} --arrive 90000 --walks", "pairs four-nodes.gr four-nodes.p2p --prepare yes --walks", f"rank {road}", "check four-nodes.gr four-nodes.ss four-nodes.report", "run --help", "explain"):
+        both = []
+        for limit in (lambda: resource.setrlimit(resource.RLIMIT_STACK, (size, size)), None):
+            run = subprocess.run([program, *words.split()], cwd=EXAMPLES, stdin=subprocess.DEVNULL, capture_output=True, timeout=60, preexec_fn=limit)
+            both.append((run.returncode, b"".join(line for line in run.stdout.splitlines(True) if not line.startswith(b"c ")), run.stderr))
+        yield f"a stack of {size} bytes: {words}", both[0], both[1]
+
+
 def held(program):
     """The program with a short file that announces the most arcs, and far less memory than these would
     take."""
@@ -147,6 +161,7 @@ def run_each(program):
     refused = b"error: invalid UTF-8 was detected in one or more arguments\n\nFor more information, try '--help'.\n"
     results += [(name, result, (2, b"", refused)) for name, result in no_text(program)]
     results.append(("words beyond memory", scarce(program), (3, b"", b"earliest: 13 OutOfMemory\n")))
+    results += little_stack(program)
     results.append(("memory for what a file announces", held(program), (1, b"", b"earliest: gr 0: 8 TooFewLines\n")))
     results += [(shlex.join(words), ran(program, words), wanted) for words, wanted in opening.cases()]
     results += alike(program)
