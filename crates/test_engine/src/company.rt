@@ -116,25 +116,23 @@ fn leaves_alone() -> bool {
     alone > 10_000 && alone < 100_000 && !goes_on(&mut other, 2_000)
 }
 
-/// What the other worker does before a worker's visits: it scans an entry, or makes this many turns that find
+/// What other workers do before a worker's visits: whether one scans an entry, and how many turns another makes that find
 /// nothing; and how many labels fall in each visit. The worker makes 100,000 visits and continues.
-const STAYS: [(bool, u32, u64); 3] = [(true, 0, 1), (false, 0, 1), (false, 160, 0)];
+const STAYS: [(bool, u32, u64); 4] = [(true, 0, 1), (false, 0, 1), (false, 160, 0), (true, 160, 1)];
 
-/// Whether the other worker continues after that; true if it does nothing.
-fn other_goes_on(company: &Company, scans: bool, turns: u32) -> bool {
-    if !scans && turns == 0 {
-        return true;
-    }
-    let mut other = company.member();
-    let goes = !scans || after(&mut other, 0, TurnKind::Scanned);
-    goes && goes_on(&mut other, turns)
+/// Whether the other workers continue after that.
+fn others_go_on(company: &Company, scans: bool, turns: u32) -> bool {
+    let mut busy = company.member();
+    let mut idle = company.member();
+    let goes = !scans || after(&mut busy, 0, TurnKind::Scanned);
+    goes && goes_on(&mut idle, turns)
 }
 
 /// Whether a worker stays in such a case.
 fn stays(scans: bool, turns: u32, lowered: u64) -> bool {
     let company = Company::new();
     let mut one = company.member();
-    other_goes_on(&company, scans, turns) && visits_of_falls(&mut one, lowered) == 100_000
+    others_go_on(&company, scans, turns) && visits_of_falls(&mut one, lowered) == 100_000
 }
 
 /// The index of the first case in which a worker leaves.
