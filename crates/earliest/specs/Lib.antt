@@ -2,6 +2,7 @@ pub mod Checks
 pub mod Choices
 pub mod Counted
 pub mod Fronts
+pub mod Running
 pub mod Runs
 pub mod SameBytes
 pub mod Performed

@@ -15,6 +15,7 @@ ghost use Rattle.ea_report.specs.Asked.{chosen_by, shape_of};
 ghost use Rattle.earliest.specs.Fronts.{shape_by};
 ghost use Rattle.earliest.specs.Counted.{AreBalanced, AreSmall, AreTotals, IsTotal, plus, totals_of};
 ghost use Rattle.earliest.specs.Fronts.{IsCutShort, IsWritten};
+ghost use Rattle.earliest.specs.Running.{HasOneMore, IsAided, IsPosedOn, IsRunning};
 ghost use Rattle.earliest.specs.Workers.{settings_by};
 
 use crate::solver_choice::{Found, find, goes_ahead, threads_at_once, workers_of};
@@ -64,18 +65,13 @@ impl Reports<'_> {
         shown: ReportOptions<'_>,
         out: &mut W,
     ) -> Result<(), AnswerFault>
-        requires problem { IsProblem road.now.network (length road.now.times.tables.list.items) query.now }
-        requires few { (length query.now.sources ≤ MOST_STARTS)
-            × (road.now.network.nodes ≤ MOST_NODES) }
+        requires posed { IsPosedOn road.now query.now }
         requires arrivals { ArrivesOn road.now query.now found.now.answer }
         requires shown { IsShown road.now.network (shape_of shown) }
         requires canonical { shown.style.walks ≡ true
             → AnswersOn road.now query.now found.now.answer }
-        requires room { self.old.progress.written ≤ MOST_STARTS * 2 ^ 90 }
-        requires small { ((problems : ℕ) × (problems < MOST_STARTS)
-            × AreSmall problems self.old.totals)
-            × AreSmall 1 found.now.totals }
-        requires balanced { AreBalanced self.old.totals × AreBalanced found.now.totals }
+        requires running { IsRunning self.old.progress.written self.old.totals }
+        requires one { AreSmall 1 found.now.totals × AreBalanced found.now.totals }
         ensures ok { OnOk result (IsSent
             (shape_of shown.entry) road.now.network (times_on road.now) query.now
             (W.seen out.old) (W.seen out.new) self.old.progress.written self.new.progress.written) }
@@ -84,11 +80,9 @@ impl Reports<'_> {
             (W.seen out.old) (W.seen out.new) self.old.progress.written) }
         ensures bound { OnOk result (self.new.progress.written ≤ self.old.progress.written + 2 ^ 90) }
         ensures totals { OnOk result (self.new.totals ≡ plus self.old.totals found.now.totals) }
-        ensures balanced { OnOk result (AreBalanced self.new.totals) }
-        ensures small { OnOk result ((problems : ℕ) →
-            AreSmall problems self.old.totals → AreSmall (problems + 1) self.new.totals) }
-        ensures search { self.new.progress.search ≡ self.old.progress.search }
-        ensures aids { self.new.progress.aids ≡ self.old.progress.aids }
+        ensures more { OnOk result (HasOneMore self.old.totals self.new.totals) }
+        ensures same { (self.new.progress.search ≡ self.old.progress.search)
+            × (self.new.progress.aids ≡ self.old.progress.aids) }
     {
         self.progress
             .write(alloc, road, query, &found.answer, shown, out)?;
@@ -108,19 +102,13 @@ impl Reports<'_> {
         shown: ReportOptions<'_>,
         out: &mut W,
     ) -> Result<(), AnswerFault>
-        requires problem { IsProblem road.now.network (length road.now.times.tables.list.items) query.now }
-        requires few { (length query.now.sources ≤ MOST_STARTS)
-            × (road.now.network.nodes ≤ MOST_NODES) }
+        requires posed { IsPosedOn road.now query.now }
         requires options { AreOptions options.now }
         requires walks { shown.style.walks ≡ options.now.walks }
         requires shown { IsShown road.now.network (shape_of shown) }
-        requires room { self.old.progress.written ≤ MOST_STARTS * 2 ^ 90 }
-        requires small { (problems : ℕ) × (problems < MOST_STARTS)
-            × AreSmall problems self.old.totals }
-        requires balanced { AreBalanced self.old.totals }
-        requires search { IfSome self.old.progress.search
-            (Serves road.now.network shown.style.walks) }
-        requires aids { AreAidsOn road.now self.old.progress.aids }
+        requires running { IsRunning self.old.progress.written self.old.totals }
+        requires aided { IsAided road.now shown.style.walks
+            self.old.progress.search self.old.progress.aids }
         ensures ok { OnOk result (IsSent
             (shape_of shown.entry) road.now.network (times_on road.now) query.now
             (W.seen out.old) (W.seen out.new) self.old.progress.written self.new.progress.written) }
@@ -131,12 +119,9 @@ impl Reports<'_> {
         ensures counted { OnOk result (options.now.stats ≡ true →
             (more : Totals) × IsTotal (settings_by options.now) query.now more
             × (self.new.totals ≡ plus self.old.totals more)) }
-        ensures balanced { OnOk result (AreBalanced self.new.totals) }
-        ensures small { OnOk result ((problems : ℕ) →
-            AreSmall problems self.old.totals → AreSmall (problems + 1) self.new.totals) }
-        ensures search { IfSome self.new.progress.search
-            (Serves road.now.network shown.entry.style.walks) }
-        ensures aids { self.new.progress.aids ≡ self.old.progress.aids }
+        ensures more { OnOk result (HasOneMore self.old.totals self.new.totals) }
+        ensures aided { IsAided road.now shown.entry.style.walks
+            self.new.progress.search self.new.progress.aids }
     {
         let are_few = few_chosen(road.network.nodes(), shown).is_some();
         let workers = workers_of(rt, road, query, options, are_few);

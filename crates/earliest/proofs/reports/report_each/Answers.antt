@@ -1,4 +1,4 @@
-use Rattle.std.proofs.Common.{[], length, refl, sym, subst, ap, arith}
+use Rattle.std.proofs.Common.{[], ◌≤◌, length, refl, sym, subst, ap, arith}
 use Rattle.std.proofs.lemmas.Result.{err_from_is_err_and}
 use Rattle.ea_load.specs.Posed.{times_on}
 use Rattle.earliest.specs.Workers.{settings_by}
@@ -32,10 +32,10 @@ loop-query-preserved g c =
       sent = sent_next (shape_of c.args.watched.shown) c.args.road.now.network (times_on c.args.road.now) c.args.queries.now i c.query-item.result c.loop-query-test.true c.query-item.is first _ now _ c.report.new.self.progress.written inv.fits inv.sent c.in_ok-report.ensures.ok;
       bound = omega (arith, c.in_ok-report.ensures.bound, inv.bound);
       counted = λ asked. let more = c.in_ok-report.ensures.counted asked in totals_next (settings_by c.args.options.now) c.args.queries.now i c.query-item.result c.loop-query-test.true c.query-item.is _ _ (inv.counted asked) more.0 more.1 more.2;
-      small = c.in_ok-report.ensures.small i inv.small;
-      balanced = c.in_ok-report.ensures.balanced;
-      aids = rw c.report.ensures.aids inv.aids;
-      search = c.report.ensures.search;
+      small = c.in_ok-report.ensures.more.small i inv.small;
+      balanced = c.in_ok-report.ensures.more.balanced;
+      aids = c.report.ensures.aided.aids;
+      search = c.report.ensures.aided.search;
     }
 
 pub loop-query-init : goal.loop-query-init
@@ -62,10 +62,24 @@ returns-clause-ok g c =
     let all = take_all c.loop-query.query-index c.args.queries.now (omega (arith, c.loop-query-test.false)) in
     subst (λ qs. AreSent (shape_of c.args.watched.shown) road.network (times_on road) qs (g.W.Device.seen c.args.out.now) (g.W.Device.seen c.loop-query.out) c.loop-query.reports.progress.written) all c.loop-query.invariant.sent
 
-pub report-requires-clause-problem : goal.report-requires-clause-problem
-report-requires-clause-problem g c κs lent =
+pub report-requires-clause-posed : goal.report-requires-clause-posed
+report-requires-clause-posed g c κs lent =
     let road = c.args.road.now in
-    subst (λ (query : Asking). IsProblem road.network (length road.times.tables.list.items) query) (sym c.query-item.is) (c.requires.problems c.loop-query.query-index c.query-item.result c.loop-query-test.true).0
+    let one = c.requires.problems c.loop-query.query-index c.query-item.result c.loop-query-test.true in
+    record {
+      problem = subst (λ (query : Asking). IsProblem road.network (length road.times.tables.list.items) query) (sym c.query-item.is) one.0;
+      few_sources = subst (λ (query : Asking). length query.sources ≤ 1000000) (sym c.query-item.is) one.1;
+      few_nodes = c.requires.few.1;
+    }
+
+pub report-requires-clause-running : goal.report-requires-clause-running
+report-requires-clause-running g c κs lent =
+    let inv = c.loop-query.invariant in
+    record {
+      room = omega (arith, inv.bound, c.requires.few.0, c.loop-query-test.true);
+      small = (c.loop-query.query-index, omega (arith, c.requires.few.0, c.loop-query-test.true), inv.small);
+      balanced = inv.balanced;
+    }
 
 pub report-requires-clause-walks : goal.report-requires-clause-walks
 report-requires-clause-walks g c κs lent = ap (λ (shape : Shape). shape.style.walks) c.requires.asked
