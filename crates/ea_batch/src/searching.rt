@@ -1,5 +1,6 @@
 //! The arrays of searches by one thread, and what the searches may use.
-ghost use Rattle.std.specs.Prelude.{◌≡◌, IfSome, Some};
+ghost use Rattle.std.specs.Prelude.{◌≡◌, IfNone, IfSome, Some, length};
+ghost use Rattle.ea_batch.specs.Shown.{AreFew, AreMany};
 ghost use Rattle.ea_batch.specs.Solved.{searched};
 ghost use Rattle.ea_report.specs.Asked.{chosen_by};
 
@@ -43,17 +44,25 @@ pub struct Aids<'a> {
 }
 
 /// Up to this number of chosen nodes are few in any network.
-const FEW: usize = 16;
+pub const FEW: usize = 16;
 
 /// More than one node in this number are many: mostly some of them are far.
-const PART: usize = 64;
+pub const PART: usize = 64;
 
 /// The nodes that are searched for alone: those that are chosen for a report, if they are few.
 pub fn few_chosen<'a>(nodes: u32, shown: ReportOptions<'a>) -> Option<&'a [u32]>
-    ensures { IfSome result (λ asked. chosen_by shown.entry ≡ Some asked.now) }
+    ensures chosen { IfSome result (λ asked. chosen_by shown.entry ≡ Some asked.now) }
+    ensures few { IfSome result (λ asked. AreFew nodes (length asked.now)) }
+    ensures many { IfNone result (IfSome (chosen_by shown.entry)
+        (λ chosen. AreMany nodes (length chosen))) }
 {
     match shown.nodes {
-        Some(asked) if asked.len() <= (nodes as usize / PART).max(FEW) => Some(asked),
-        _ => None,
+        Some(asked) => {
+            if asked.len() <= FEW || asked.len() <= nodes as usize / PART {
+                return Some(asked);
+            }
+            None
+        }
+        None => None,
     }
 }
