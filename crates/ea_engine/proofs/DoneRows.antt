@@ -17,7 +17,7 @@ use Rattle.ea_engine.specs.Rowed.{all_done, IsFirstEnd, IsSeeded, AreSeated, IsD
 use Rattle.ea_engine.specs.Rows.{MayStart, IsReadyRow, IsRun, IsRunRow, IsSeatedRow}
 use Rattle.ea_base.specs.declared.limits.TheConstants.{SHARES}
 use Rattle.ea_engine.specs.Tallies.{busy_by_all, empty_by_all}
-use Rattle.ea_base.specs.declared.limits.TheConstants.{MOST_BATCH}
+use Rattle.ea_base.specs.declared.limits.TheConstants.{MOST_BATCH, MOST_WORKERS}
 use Rattle.ea_engine.specs.Worked.{Kit}
 use Rattle.ea_engine.proofs.AccountLemmas.{closed_worked}
 use Rattle.ea_engine.proofs.Multisets.{same_length}
@@ -131,8 +131,9 @@ module _ {K R T E : Type 0} (problem : Problem) (tables : Tables)
 
     pub done_row : (seeded : ℕ) (waiting : List ℕ) → IsSeeded problem tables seeded waiting main
         → main.label_seat.history.shares + length fresh ≡ 64 → main.pool_seat.account.shares + length fresh ≡ 64
+        → length row ≤ MOST_WORKERS
         → IsDoneRow problem tables seeded waiting row'
-    done_row seeded waiting began label_shares pool_shares = go row' refl
+    done_row seeded waiting began label_shares pool_shares few = go row' refl
       where
         go : (ps : List (Place K R T E)) → row' ≡ ps → IsDoneRow problem tables seeded waiting row'
         go [] e = absurd (omega (arith, ap length e))
@@ -143,6 +144,7 @@ module _ {K R T E : Type 0} (problem : Problem) (tables : Tables)
               first = first.end;
               others = others;
               row_is = e ∙ ap (λ q. q ∷ others) first.is;
+              few = omega (arith, length'_is, few);
               first_end = first.first;
               other_ends = others_done p others e;
               label_shares = omega (arith, first.label_shares, label_shares, ap length e);
@@ -151,10 +153,10 @@ module _ {K R T E : Type 0} (problem : Problem) (tables : Tables)
 
   pub seated_done : (rngs : List R) (tracers : List T) (row row' : List (Place K R T E)) (rng : R) (tracer : T) (seeded : ℕ) (waiting : List ℕ)
       → AreSeated problem tables seeded waiting rngs tracers row
-      → IsRunRow problem tables stream shows pace row row' → length row' ≡ length row
+      → IsRunRow problem tables stream shows pace row row' → length row' ≡ length row → length row ≤ MOST_WORKERS
       → IsDoneRow problem tables seeded waiting row'
-  seated_done rngs tracers row row' rng tracer seeded waiting a ran same =
-      done_row a.main a.fresh rngs tracers row row' rng tracer a.seated ran (omega (arith, a.length_is)) same a.all_fresh seeded waiting a.seeds a.label_shares a.pool_shares
+  seated_done rngs tracers row row' rng tracer seeded waiting a ran same few =
+      done_row a.main a.fresh rngs tracers row row' rng tracer a.seated ran (omega (arith, a.length_is)) same a.all_fresh seeded waiting a.seeds a.label_shares a.pool_shares few
 
   -- the workers may start
   pub ready_row : (callable : T → Type 0) (rngs : List R) (tracers : List T) (row : List (Place K R T E)) (rng : R) (tracer : T) (seeded : ℕ) (waiting : List ℕ)

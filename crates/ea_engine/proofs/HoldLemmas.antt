@@ -45,7 +45,7 @@ module _ (known : ℕ → ℕ → Type 0) where
       go zero none = of_one x e here (omega (arith, there, none, ap (times e) is, total-append (only e) es (x ∷ [])))
       go (suc n) some = all e (omega (arith, some))
 
-  pub known_inside : (problem : Problem) (es : List Entry) → IsPosed known problem → AreKnown known es → AreInside problem.network es
+  pub known_inside : (problem : Problem) (es : List Entry) → IsPosed known problem → AreKnown known es → AreInside problem.network.nodes es
   known_inside problem es posed all e inside = node_of known problem posed e.node e.key (all e (times-Contains e es inside))
 
   pub known_at : (problem : Problem) (nodes : ℕ) (es : List Entry) (place : ℕ) (default : Entry) → nodes ≡ problem.network.nodes → IsPosed known problem → AreKnown known es → place < length es

@@ -11,6 +11,7 @@ pub mod HoldLemmas
 pub mod WorkLemmas
 pub mod AccountLemmas
 pub mod Settling
+pub mod OpeningLemmas
 pub mod SeedLemmas
 pub mod JoinLemmas
 pub mod GroundLemmas

@@ -13,9 +13,9 @@ use Rattle.ea_engine.specs.declared.run.row.Place.{Place}
 use Rattle.ea_engine.specs.declared.run.row.Place.TheVariants as place
 use Rattle.ea_engine.specs.declared.worker.work_loop.WorkerEnd.{WorkerEnd}
 use Rattle.ea_engine.specs.Ends.{IsEnd, IsEndPlace}
-use Rattle.ea_engine.specs.Gathered.{IsGathered}
-use Rattle.ea_engine.specs.Grown.{AddsEnd, Joins}
-use Rattle.ea_engine.specs.Seated.{Tables, AreSeatsOf}
+use Rattle.ea_engine.specs.Gathered.{AccountForAll}
+use Rattle.ea_engine.specs.Grown.{Joins}
+use Rattle.ea_engine.specs.Seated.{Tables}
 use Rattle.ea_engine.specs.Rowed.{all_done, AreGathered, IsDonePlace}
 use Rattle.ea_engine.proofs.BoundLemmas.{IsReachedBy-more}
 
@@ -82,18 +82,14 @@ module _ {K R T E : Type 0} (problem : Problem) (tables : Tables) where
   -- one more worker
   pub gathered_more : (seeded back : ℕ) (ends : List (WorkerEnd K R T E)) (end : WorkerEnd K R T E) (g h : Gathering K R T E)
       → AreGathered problem tables seeded back ends g
-      → AreSeatsOf tables h.seats.label_seat h.seats.pool_seat
-      → IsGathered problem h.seats.label_seat.history h.seats.pool_seat.account h.todo.waiting
-      → h.todo.nodes ≡ problem.network.nodes
-      → Joins end g h → end.counters.returned ≤ 2 * MOST_BATCH → end.counters.pushed < 2 ^ 62
-      → AddsEnd end g.results h.results
+      → AccountForAll problem tables problem.network.nodes h.seats h.todo
+      → Joins end g h → end.counters.pushed < 2 ^ 62
       → AreGathered problem tables seeded back (ends ++ end ∷ []) h
-  gathered_more seeded back ends end g h a fit gathered nodes j small low more =
+  gathered_more seeded back ends end g h a account j low =
       let count = length-append ends (end ∷ []) in
+      let more = j.results in
       record {
-        fit = fit;
-        gathered = gathered;
-        nodes = nodes;
+        account = account;
         offered = λ source among. IsReachedBy-more g.seats.label_seat.history.bounds h.seats.label_seat.history.bounds j.bounds source.node source.departure (a.offered source among);
         counters_are = more.counters ∙ ap (λ xs. xs ++ end.counters ∷ []) a.counters_are ∙ sym (map-append (λ (e : WorkerEnd K R T E). e.counters) ends (end ∷ []));
         rngs_are = more.rngs ∙ ap (λ xs. xs ++ end.rng ∷ []) a.rngs_are ∙ sym (map-append (λ (e : WorkerEnd K R T E). e.rng) ends (end ∷ []));
@@ -102,7 +98,7 @@ module _ {K R T E : Type 0} (problem : Problem) (tables : Tables) where
         pushed_few = omega (arith, a.pushed_few, j.pushed, low, count);
         popped_is = omega (arith, a.popped_is, j.popped, sum_push (λ (e : WorkerEnd K R T E). e.counters.popped) ends end);
         returned_is = omega (arith, a.returned_is, j.returned, sum_push (λ (e : WorkerEnd K R T E). e.counters.returned) ends end);
-        returned_few = omega (arith, a.returned_few, j.returned, small, count);
-        few = omega (arith, a.few, j.few, j.returned);
-        some = λ more. j.some (waits_or (length g.todo.waiting) g.returned end.counters.returned h.returned a.some j.returned more);
+        returned_few = omega (arith, a.returned_few, j.returned, j.returned_few, count);
+        few = omega (arith, a.few, j.opens.few, j.returned);
+        some = λ more. j.opens.some (waits_or (length g.todo.waiting) g.returned end.counters.returned h.returned a.some j.returned more);
       }

@@ -2,7 +2,7 @@
 use Rattle.std.proofs.Common.{◌≡◌, ℕ, ◌+◌, ◌*◌, ◌<◌, ◌≤◌, List, length, sym, ◌∙◌, ap, arith, subst, ◌-◌}
 use Rattle.std.proofs.lemmas.List.{length-map}
 use Rattle.rand_core.specs.Stream.{Stream}
-use Rattle.ea_base.specs.declared.limits.TheConstants.{MOST_BATCH}
+use Rattle.ea_base.specs.declared.limits.TheConstants.{MOST_BATCH, MOST_WORKERS}
 use Rattle.ea_road.specs.Queries.{Asking}
 use Rattle.ea_road.specs.Roads.{Roads}
 use Rattle.ea_engine.specs.declared.worker.counters.Counters.{Counters}
@@ -27,9 +27,9 @@ use Rattle.ea_engine.proofs.SeedLemmas.{AreSeeds-few, AreSeeds-some}
 module _ {K R T E : Type 0} (problem : Problem) (tables : Tables) (stream : R → Stream) (shows : T → Turn → Flow → T → Type 0) where
   pub worked_done : (pace : Pace) (seeded : ℕ) (waiting : List ℕ) (rngs : List R) (tracers : List T) (row : List (Place K R T E))
       → HaveWorked problem tables stream shows pace seeded waiting rngs tracers row
-      → pace.batch ≤ MOST_BATCH → 0 < length rngs → 0 < length tracers → IsDoneRow problem tables seeded waiting row
-  worked_done pace seeded waiting rngs tracers row w few some_rng some_tracer =
-      seated_done problem tables stream shows pace few rngs tracers w.before row (some_of rngs some_rng) (some_of tracers some_tracer) seeded waiting w.seated w.ran w.row_len
+      → pace.batch ≤ MOST_BATCH → length rngs ≤ MOST_WORKERS → 0 < length rngs → 0 < length tracers → IsDoneRow problem tables seeded waiting row
+  worked_done pace seeded waiting rngs tracers row w few few_workers some_rng some_tracer =
+      seated_done problem tables stream shows pace few rngs tracers w.before row (some_of rngs some_rng) (some_of tracers some_tracer) seeded waiting w.seated w.ran w.row_len (omega (arith, few_workers, w.rngs_len))
 
   module _ {G : Type 0} (callable : T → Type 0) (crew : Crew R G T) (is_crew : IsCrew callable crew)
       (seeded back : ℕ) (waiting : List ℕ) (row : List (Place K R T E)) (ran : Ran R T)

@@ -1,5 +1,5 @@
 -- Turns that found nothing, turns that visited an entry, and what is pushed at a turn's end.
-use Rattle.std.proofs.Common.{◌≡◌, ℕ, ◌+◌, ◌*◌, ◌<◌, ◌≤◌, true, false, List, [], ◌∷◌, ◌++◌, length, refl, sym, ◌∙◌, ap, subst, arith, None, Option, min, length-append}
+use Rattle.std.proofs.Common.{◌≡◌, ℕ, ◌+◌, ◌*◌, ◌<◌, ◌≤◌, true, false, List, [], ◌∷◌, ◌++◌, length, refl, sym, ◌∙◌, ap, subst, arith, None, Option, min, length-append, zero-add}
 use Rattle.std.specs.Prelude.{reverse}
 use Rattle.std.specs.Option.{option_to_list}
 use Rattle.std.proofs.lemmas.Bool.{false≢true}
@@ -30,11 +30,11 @@ use Rattle.ea_labels.specs.declared.record.SeatRecord.{SeatRecord}
 use Rattle.ea_pool.specs.declared.shared.account.Account.{Account}
 use Rattle.ea_base.specs.declared.limits.TheConstants.{SHARES}
 use Rattle.ea_pool.specs.Pools.{SameBooks}
-use Rattle.ea_engine.specs.Turns.{is_busy, is_idle, is_refused, IsShaped, visited_as}
+use Rattle.ea_engine.specs.Turns.{is_busy, is_idle, is_refused, IsShaped, visited_as, visited_in}
 use Rattle.ea_engine.specs.Closed.{entry_at, IsClosedAs, IsFreshAs}
 use Rattle.ea_engine.specs.Holds.{IsVisit, TookSome, ComeInOrder}
 use Rattle.ea_engine.specs.Worked.{Kit, kit, Progress, IsTurn, IsBrokenAs, IsLeftAs, IsFirstLeft, IsLoneAs, IsPoppingAs}
-use Rattle.ea_engine.proofs.ProgressLemmas.{Progress-idle, Progress-took, Progress-then, Progress-beside}
+use Rattle.ea_engine.proofs.ProgressLemmas.{Progress-idle, Progress-took, Progress-then, Progress-next, Progress-beside}
 
 visited_as-idle : (k : TurnKind) (x y : ℕ) → is_idle k ≡ true → visited_as k x y ≡ []
 visited_as-idle Empty x y e = refl
@@ -208,6 +208,15 @@ module _ (problem : Problem) where
   IsFreshAs-idle bs Refused e i = absurd (false≢true i)
   IsFreshAs-idle bs Cut e i = absurd (false≢true i)
 
+module _ (problem : Problem) (batch : ℕ) where
+  -- what a visit did, with the entries that stay taken
+  pub IsVisit-progress : (from to : Kit) (n : ℕ) (end : TurnEnd) → IsVisit problem batch from to n end → Progress from to (visited_in end.turn) end.pushes end.turn.lowered
+  IsVisit-progress from to n end v =
+      Progress-then from (kit from.labels from.account from.words to.taken from.fresh) to (v.entry ∷ []) [] (visited_in end.turn) 0 end.pushes end.pushes 0 end.turn.lowered end.turn.lowered
+      (Progress-next from.labels from.account from.words from.taken to.taken from.fresh v.entry v.next)
+      (Progress-beside from.labels to.labels from.account to.account from.words to.words to.taken from.fresh to.fresh end.pushes end.turn.lowered v.visit.progress)
+      v.visit.visited (sym (zero-add end.pushes)) (sym (zero-add end.turn.lowered))
+
 module _ {kind : HeapKind} (problem : Problem) (batch heaps : ℕ) where
   pub IsTurn-idle : (r : SeatRecord) (a b : Account) (w u : Stream) (taken taken' fresh : List Entry) (n : ℕ) (end : TurnEnd)
       → SameBooks a b → taken ≡ [] → taken' ≡ [] → length fresh < batch → u ≡ after_words 2 w
@@ -239,21 +248,21 @@ module _ {kind : HeapKind} (problem : Problem) (batch heaps : ℕ) where
   IsTurn-visited from to n end v few =
       let size : length from.taken ≡ length to.taken + 1 = omega (arith, ap length v.next, length-append to.taken (v.entry ∷ [])) in
       record {
-        number_is = v.number_is;
-        shaped = v.shaped;
-        few = v.few;
-        broken_is = v.broken_is;
-        broken_visited = v.broken_visited;
-        broken_inside = v.broken_inside;
-        pops = IsPoppingAs-visited end.turn.kind end.turn.key end.turn.node end.pops v.entry v.visited (omega (arith, v.pops));
+        number_is = v.visit.number_is;
+        shaped = v.visit.shaped;
+        few = v.visit.few;
+        broken_is = v.visit.broken_is;
+        broken_visited = v.visit.broken_visited;
+        broken_inside = v.visit.broken_inside;
+        pops = IsPoppingAs-visited end.turn.kind end.turn.key end.turn.node end.pops v.entry v.visit.visited (omega (arith, v.visit.pops));
         one_push_each = λ is. absurd (omega (arith, size, few, is));
         taken_few = omega (arith, size, few);
-        fresh_few = v.fresh_few;
-        progress = subst (λ m. Progress from to (visited_as end.turn.kind end.turn.key end.turn.node) m end.turn.lowered) (omega (arith, v.pops)) v.progress;
-        reached = rw v.visited (All-cons (λ (e : Entry). Reaches problem.network problem.answers problem.query.sources e.node e.key) v.entry [] v.reached (All-nil (λ (e : Entry). Reaches problem.network problem.answers problem.query.sources e.node e.key)));
-        closed = v.closed;
-        fresh = v.fresh;
-        never_busy = λ whole. not_busy_visited end.turn.kind end.turn.key end.turn.node v.entry v.visited;
+        fresh_few = v.visit.fresh_few;
+        progress = subst (λ m. Progress from to (visited_as end.turn.kind end.turn.key end.turn.node) m end.turn.lowered) (omega (arith, v.visit.pops)) (IsVisit-progress problem batch from to n end v);
+        reached = rw v.visit.visited (All-cons (λ (e : Entry). Reaches problem.network problem.answers problem.query.sources e.node e.key) v.entry [] v.reached (All-nil (λ (e : Entry). Reaches problem.network problem.answers problem.query.sources e.node e.key)));
+        closed = v.visit.closed;
+        fresh = v.visit.fresh;
+        never_busy = λ whole. not_busy_visited end.turn.kind end.turn.key end.turn.node v.entry v.visit.visited;
         lone = λ nothing. absurd (omega (arith, size, ap length nothing));
       }
 
@@ -267,24 +276,24 @@ module _ {kind : HeapKind} (problem : Problem) (batch heaps : ℕ) where
       let size : length taken' ≡ length to.taken + 1 = omega (arith, ap length v.next, length-append to.taken (v.entry ∷ [])) in
       let low : v.entry.key ≤ EMPTY = within v.entry.node v.entry.key (t.known_all v.entry (omega (arith, ap (times v.entry) is, only-same v.entry))) in
       record {
-        number_is = v.number_is;
-        shaped = v.shaped;
-        few = v.few;
-        broken_is = v.broken_is;
-        broken_visited = v.broken_visited;
-        broken_inside = v.broken_inside;
+        number_is = v.visit.number_is;
+        shaped = v.visit.shaped;
+        few = v.visit.few;
+        broken_is = v.visit.broken_is;
+        broken_visited = v.visit.broken_visited;
+        broken_inside = v.visit.broken_inside;
         pops = IsPoppingAs-one end.turn.kind 1 refl;
-        one_push_each = λ one. (refl, v.one_push_each one);
+        one_push_each = λ one. (refl, v.visit.one_push_each one);
         taken_few = omega (arith, size, t.few, ap length is, ap length t.turned, same_size t.out);
-        fresh_few = v.fresh_few;
+        fresh_few = v.visit.fresh_few;
         progress = subst (λ ts. Progress (kit r a w ts fresh) to (visited_as end.turn.kind end.turn.key end.turn.node) (2 * 1 + end.pushes) end.turn.lowered) (sym none)
             (Progress-then (kit r a w [] fresh) (kit r b u taken' fresh) to [] (visited_as end.turn.kind end.turn.key end.turn.node) _ 2 end.pushes _ 0 end.turn.lowered _
-            (Progress-took r a b w u taken' t.out fresh t.popped t.turned d) v.progress (appended (visited_as end.turn.kind end.turn.key end.turn.node)) refl (omega arith));
-        reached = rw v.visited (All-cons (λ (e : Entry). Reaches problem.network problem.answers problem.query.sources e.node e.key) v.entry [] v.reached (All-nil (λ (e : Entry). Reaches problem.network problem.answers problem.query.sources e.node e.key)));
-        closed = v.closed;
-        fresh = v.fresh;
-        never_busy = λ whole. not_busy_visited end.turn.kind end.turn.key end.turn.node v.entry v.visited;
-        lone = λ nothing whole. IsLoneAs-popped kind end.turn.kind heaps end.turn.key end.turn.node a v.entry v.visited (least_out known kind heaps batch taken' to.taken a b v.entry t v.next low whole);
+            (Progress-took r a b w u taken' t.out fresh t.popped t.turned d) (IsVisit-progress problem batch (kit r b u taken' fresh) to n end v) (appended (visited_as end.turn.kind end.turn.key end.turn.node)) refl (omega arith));
+        reached = rw v.visit.visited (All-cons (λ (e : Entry). Reaches problem.network problem.answers problem.query.sources e.node e.key) v.entry [] v.reached (All-nil (λ (e : Entry). Reaches problem.network problem.answers problem.query.sources e.node e.key)));
+        closed = v.visit.closed;
+        fresh = v.visit.fresh;
+        never_busy = λ whole. not_busy_visited end.turn.kind end.turn.key end.turn.node v.entry v.visit.visited;
+        lone = λ nothing whole. IsLoneAs-popped kind end.turn.kind heaps end.turn.key end.turn.node a v.entry v.visit.visited (least_out known kind heaps batch taken' to.taken a b v.entry t v.next low whole);
       }
     where
       appended : (xs : List Entry) → xs ≡ xs ++ []

@@ -200,22 +200,24 @@ module _ (problem : Problem) where
   IsVisit-saw batch r s a w taken fresh to n end saw v = record {
     entry = v.entry;
     next = v.next;
-    visited = v.visited;
     reached = v.reached;
-    number_is = v.number_is;
-    shaped = v.shaped;
-    few = v.few;
-    broken_is = v.broken_is;
-    broken_visited = v.broken_visited;
-    broken_inside = v.broken_inside;
-    pops = v.pops;
-    pushes = v.pushes;
-    one_push_each = v.one_push_each;
-    fresh_few = v.fresh_few;
-    progress = Progress-then (kit r a w taken fresh) (kit s a w taken fresh) to [] (visited_in end.turn) (visited_in end.turn) 0 end.pushes end.pushes 0 end.turn.lowered end.turn.lowered
-        (Progress-saw r s a w taken fresh saw) v.progress (sym (append-nil (visited_in end.turn))) (sym (zero-add end.pushes)) (sym (zero-add end.turn.lowered));
-    closed = v.closed;
-    fresh = IsFreshAs-less r.bounds s.bounds end.turn.kind _ saw.bounds_stay v.fresh;
+    visit = record {
+      visited = v.visit.visited;
+      number_is = v.visit.number_is;
+      shaped = v.visit.shaped;
+      few = v.visit.few;
+      broken_is = v.visit.broken_is;
+      broken_visited = v.visit.broken_visited;
+      broken_inside = v.visit.broken_inside;
+      pops = v.visit.pops;
+      pushes = v.visit.pushes;
+      one_push_each = v.visit.one_push_each;
+      fresh_few = v.visit.fresh_few;
+      progress = Progress-then (kit r a w [] fresh) (kit s a w [] fresh) (kit to.labels to.account to.words [] to.fresh) [] [] [] 0 end.pushes end.pushes 0 end.turn.lowered end.turn.lowered
+          (Progress-saw r s a w [] fresh saw) v.visit.progress refl (sym (zero-add end.pushes)) (sym (zero-add end.turn.lowered));
+      closed = v.visit.closed;
+      fresh = IsFreshAs-less r.bounds s.bounds end.turn.kind _ saw.bounds_stay v.visit.fresh;
+    };
   }
 
   module _ {T : Type 0} (shows : T → Turn → Flow → T → Type 0) (heaps : ℕ) where
@@ -428,7 +430,7 @@ module _ (problem : Problem) where
     pub SoFar-end : (from to : Kit) (pace : Pace) (tracer tracer' : T) (counters counters' : Counters) (hand : Hand) (number idle : ℕ) (ended : Bool)
         → SoFar from to pace tracer tracer' counters hand.popped number idle ended → number ≤ 1000000000 → (ended ≡ true) ⊎ (pace.patience ≤ idle) ⊎ (pace.turns ≤ number)
         → from.taken ≡ [] → from.fresh ≡ [] → to.taken ≡ hand.taken.items → to.fresh ≡ hand.fresh.items
-        → AreInside problem.network hand.taken.items → AreInside problem.network hand.fresh.items
+        → AreInside problem.network.nodes hand.taken.items → AreInside problem.network.nodes hand.fresh.items
         → length hand.fresh.items ≤ counters.lowered
         → counters' ≡ closed_by (array_vec_len hand.taken) (array_vec_len hand.fresh) counters
         → IsWork problem shows heaps from to pace tracer tracer' counters' hand

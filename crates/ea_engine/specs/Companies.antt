@@ -36,6 +36,13 @@ LeavesAs Refused number member Go = ⊥
 LeavesAs Cut number member Go = Unit {0}
 LeavesAs kind number member Leave = MayLeaveAs kind number member
 
+-- A turn that found nothing: the worker leaves only after 384 such turns in which no worker was active.
+pub record FindsNothing (old new : Member) (flow : Flow) : Type 0 where
+  pub leaves : flow ≡ Leave → 384 ≤ old.quiet
+  pub idle : new.idle ≤ old.idle + 1
+  pub quiet : (new.quiet ≡ 0) ⊎ (new.quiet ≡ old.quiet) ⊎ ((new.quiet ≤ old.quiet + 1) × (127 ≤ old.idle))
+  pub alone : new.alone ≡ old.alone
+
 -- A member's counts are at most the consecutive turns without an entry; none of the first 128 counts as
 -- quiet.
 pub record IsIdleFor (member : Member) (turns : ℕ) : Type 0 where
@@ -74,3 +81,10 @@ pub record KeepsCounts (old new : Member) : Type 0 where
 -- Only at a look may a member once more find all others idle.
 abbrev pub LooksOnce : ℕ → Member → Member → Type 0
 LooksOnce number old new = (new.alone ≤ old.alone) ⊎ (IsLook number × (new.alone ≤ old.alone + 1))
+
+-- A turn that visited an entry ends the consecutive turns without one.
+pub record FindsEntry (number : ℕ) (old new : Member) (flow : Flow) : Type 0 where
+  pub leaves : flow ≡ Leave → MayLeaveAt number old
+  pub idle : new.idle ≡ 0
+  pub quiet : new.quiet ≡ 0
+  pub alone : LooksOnce number old new

@@ -24,7 +24,7 @@ module _ {K R T E : Type 0} (problem : Problem) (tables : Tables) where
   pub record IsEnd (end : WorkerEnd K R T E) : Type 0 where
     pub fit : AreSeatsOf tables end.label_seat end.pool_seat
     pub closed : IsClosedAccount problem end.label_seat.history end.pool_seat.account (back_of end.hand) end.hand.fresh.items
-    pub inside : IsHandInside problem.network end.hand
+    pub inside : IsHandInside problem.network.nodes end.hand
     pub pushed_is : length end.pool_seat.account.pushed ≡ end.counters.pushed
     pub pushed_few : end.counters.pushed < 2 ^ 62
     pub popped_is : length end.pool_seat.account.popped ≡ end.counters.popped

@@ -9,9 +9,11 @@ pub mod Looks
 pub mod Worked
 pub mod Holds
 pub mod Seated
+pub mod Equipped
 pub mod Scans
 pub mod Rows
 pub mod Reports
+pub mod Openings
 pub mod Gathered
 pub mod Seeds
 pub mod Rowed

@@ -4,7 +4,7 @@ use Rattle.std.specs.List.{IsAmong}
 use Rattle.ea_base.specs.declared.limits.TheConstants.{HORIZON}
 use Rattle.ea_road.specs.declared.source.Source.{Source}
 use Rattle.ea_road.specs.Arrivals.{Reaches}
-use Rattle.ea_road.specs.Queries.{Asking}
+use Rattle.ea_road.specs.Queries.{Asking, IsProblem}
 use Rattle.ea_road.specs.Roads.{Roads, IsNode, IsNetwork}
 use Rattle.ea_pool.specs.declared.heap.entry.Entry.{Entry}
 
@@ -40,6 +40,11 @@ pub record IsNamed (known : ℕ → ℕ → Type 0) (problem : Problem) (network
   pub query_is : query ≡ problem.query
   pub answers_are : (class weight departure arrival : ℕ) → answers class weight departure arrival ↔ problem.answers class weight departure arrival
   pub names : (node time : ℕ) → known node time ↔ Reaches problem.network problem.answers problem.query.sources node time
+
+-- A call's network, travel times for classes up to a greatest, and query make the problem that `K` names.
+pub record IsNamedProblem (known : ℕ → ℕ → Type 0) (problem : Problem) (network : Roads) (answers : ℕ → ℕ → ℕ → ℕ → Type 0) (classes : ℕ) (query : Asking) : Type 0 where
+  pub is_problem : IsProblem network classes query
+  pub named : IsNamed known problem network answers query
 
 -- Each entry's node is reached at its key.
 abbrev pub AreReached : Roads → (ℕ → ℕ → ℕ → ℕ → Type 0) → List Source → List Entry → Type 0

@@ -1,10 +1,17 @@
 -- The results of a row, and those gathered from its first places.
-use Rattle.std.specs.Prelude.{◌≡◌, ℕ, ◌+◌, ◌*◌, ◌^◌, ◌<◌, ◌≤◌, List, [], ◌∷◌, map, length, All, sum_by}
+use Rattle.std.specs.Prelude.{◌≡◌, ℕ, ◌+◌, ◌*◌, ◌^◌, ◌<◌, ◌≤◌, List, [], ◌∷◌, map, length, All, sum_by, Bool}
 use Rattle.rand_core.specs.Stream.{Stream}
-use Rattle.ea_base.specs.declared.limits.TheConstants.{MOST_BATCH}
+use Rattle.ea_road.specs.Queries.{Asking}
+use Rattle.ea_road.specs.Roads.{Roads}
+use Rattle.ea_search.specs.Underway.{IsUnderway}
+use Rattle.ea_search.specs.Worklist.{Worklist}
+use Rattle.ea_pool.specs.declared.shared.account.Account.{Account}
+use Rattle.ea_engine.specs.declared.run.closing.Settled.{Settled}
+use Rattle.ea_base.specs.declared.limits.TheConstants.{MOST_BATCH, MOST_WORKERS}
 use Rattle.ea_engine.specs.declared.run.gathering.Gathering.{Gathering}
 use Rattle.ea_engine.specs.declared.worker.means.Seats.{Seats}
 use Rattle.ea_engine.specs.declared.run.ran.Ran.{Ran}
+use Rattle.ea_engine.specs.declared.run.workers.Begun.{Begun}
 use Rattle.ea_engine.specs.declared.run.row.Place.{Place}
 use Rattle.ea_engine.specs.declared.run.row.Place.TheVariants as place
 use Rattle.ea_engine.specs.declared.settings.Pace.{Pace}
@@ -12,11 +19,12 @@ use Rattle.ea_engine.specs.declared.worker.turn.Flow.{Flow}
 use Rattle.ea_engine.specs.declared.worker.turn.Turn.{Turn}
 use Rattle.ea_engine.specs.declared.worker.work_loop.WorkerEnd.{WorkerEnd}
 use Rattle.ea_engine.specs.Ends.{AreFresh, IsEndPlace}
-use Rattle.ea_engine.specs.Gathered.{IsGathered, IsHanded}
+use Rattle.ea_engine.specs.Gathered.{AccountForAll, IsGathered, IsHanded}
 use Rattle.ea_engine.specs.Opened.{AreOffered}
+use Rattle.ea_engine.specs.Openings.{Opens}
 use Rattle.ea_engine.specs.Problems.{Problem}
 use Rattle.ea_engine.specs.Rows.{IsSeatedRow, IsRunRow}
-use Rattle.ea_engine.specs.Seated.{Tables, AreSeatsOf}
+use Rattle.ea_engine.specs.Seated.{Tables, AreSeatsOf, HaveAllShares}
 use Rattle.ea_engine.specs.Worked.{IsHandInside, hand_size}
 
 -- A worker that is done is at each place.
@@ -43,7 +51,7 @@ module _ {K R T E : Type 0} (problem : Problem) (tables : Tables) where
   pub record IsFirstEnd (seeded : ℕ) (waiting : List ℕ) (end : WorkerEnd K R T E) : Type 0 where
     pub fit : AreSeatsOf tables end.label_seat end.pool_seat
     pub handed : IsHanded problem end.label_seat.history end.pool_seat.account end.hand waiting
-    pub inside : IsHandInside problem.network end.hand
+    pub inside : IsHandInside problem.network.nodes end.hand
     pub offered : AreOffered problem.query.sources end.label_seat.history
     pub pushed_is : length end.pool_seat.account.pushed ≡ seeded + end.counters.pushed
     pub pushed_few : end.counters.pushed ≤ 2 ^ 62
@@ -67,6 +75,7 @@ module _ {K R T E : Type 0} (problem : Problem) (tables : Tables) where
     pub first : WorkerEnd K R T E
     pub others : List (Place K R T E)
     pub row_is : row ≡ place.Done first ∷ others
+    pub few : length row ≤ MOST_WORKERS
     pub first_end : IsFirstEnd seeded waiting first
     pub other_ends : All (IsEndPlace problem tables) others
     pub label_shares : first.label_seat.history.shares + length others ≡ 64
@@ -75,9 +84,7 @@ module _ {K R T E : Type 0} (problem : Problem) (tables : Tables) where
   -- The gathered results of some workers, the first among them, for the numbers of seeds that the pool took
   -- and handed back.
   pub record AreGathered (seeded back : ℕ) (ends : List (WorkerEnd K R T E)) (gathering : Gathering K R T E) : Type 0 where
-    pub fit : AreSeatsOf tables gathering.seats.label_seat gathering.seats.pool_seat
-    pub gathered : IsGathered problem gathering.seats.label_seat.history gathering.seats.pool_seat.account gathering.todo.waiting
-    pub nodes : gathering.todo.nodes ≡ problem.network.nodes
+    pub account : AccountForAll problem tables problem.network.nodes gathering.seats gathering.todo
     pub offered : AreOffered problem.query.sources gathering.seats.label_seat.history
     pub counters_are : gathering.results.counters.items ≡ map (λ end. end.counters) ends
     pub rngs_are : gathering.results.rngs.items ≡ map (λ end. end.rng) ends
@@ -90,11 +97,25 @@ module _ {K R T E : Type 0} (problem : Problem) (tables : Tables) where
     pub few : length gathering.todo.waiting ≤ gathering.returned
     pub some : 0 < gathering.returned → 0 < length gathering.todo.waiting
 
-  -- The gathered results of all workers of a row.
+  -- The gathered results of all workers of a row: the seats have all shares.
   pub record IsGatheredRow (seeded back : ℕ) (row : List (Place K R T E)) (gathering : Gathering K R T E) : Type 0 where
     pub ends : List (WorkerEnd K R T E)
     pub row_is : row ≡ all_done ends
     pub all : AreGathered seeded back ends gathering
+    pub shares : HaveAllShares gathering.seats
+
+-- The tables are closed: the finishing pass may begin, and what was pushed was popped or drained.
+pub record IsSettled (problem : Problem) (account : Account) (before : Worklist) (settled : Settled) : Type 0 where
+  pub underway : IsUnderway problem.network problem.answers problem.query settled.table.items settled.todo.waiting
+  pub nodes_are : settled.todo.nodes ≡ problem.network.nodes
+  pub drained : length account.pushed ≡ length account.popped + settled.drained
+  pub opens : Opens settled.drained before settled.todo
+
+-- The finishing pass may begin with this table and worklist, which has storage for walks if they are asked for.
+pub record IsBegun {R T : Type 0} (network : Roads) (answers : ℕ → ℕ → ℕ → ℕ → Type 0) (query : Asking) (walks : Bool) (begun : Begun R T) : Type 0 where
+  pub underway : IsUnderway network answers query begun.table.items begun.todo.waiting
+  pub nodes_are : begun.todo.nodes ≡ network.nodes
+  pub walks_are : begun.todo.walks ≡ walks
 
 module _ {K R T E : Type 0} where
   -- How a run went after its row was gathered and its pool drained, for the numbers of seeds that the pool

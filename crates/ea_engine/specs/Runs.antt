@@ -1,9 +1,11 @@
 -- What a run promises besides its answer, and what it requires of its crew.
-use Rattle.std.specs.Prelude.{◌≡◌, ℕ, ◌+◌, ◌-◌, ◌*◌, All, length, vec_len}
+use Rattle.std.specs.Prelude.{◌≡◌, ℕ, ◌+◌, ◌-◌, ◌*◌, All, length, vec_len, Bool}
 use Rattle.rand_core.specs.Stream.{Stream}
 use Rattle.ea_road.specs.Queries.{Asking}
 use Rattle.ea_road.specs.Roads.{Roads}
+use Rattle.ea_search.specs.Underway.{IsFinished}
 use Rattle.ea_engine.specs.declared.run.crew.Crew.{Crew}
+use Rattle.ea_engine.specs.declared.run.known_run.Ended.{Ended}
 use Rattle.ea_engine.specs.declared.run.ran.Ran.{Ran}
 use Rattle.ea_engine.specs.declared.run.solved.Solved.{Solved}
 use Rattle.ea_engine.specs.declared.worker.turn.Flow.{Flow}
@@ -31,6 +33,12 @@ module _ {R G T : Type 0} (stream : R → Stream) (shows : T → Turn → Flow �
     pub counters_len : vec_len ran.results.counters ≡ crew.settings.workers
     pub rngs_len : vec_len ran.results.rngs ≡ crew.settings.workers
     pub tracers_len : vec_len ran.results.tracers ≡ crew.settings.workers
+
+  -- The finishing pass is over too, with storage for walks if they are asked for.
+  pub record IsEnded (network : Roads) (answers : ℕ → ℕ → ℕ → ℕ → Type 0) (query : Asking) (crew : Crew R G T) (walks : Bool) (ended : Ended R T) : Type 0 where
+    pub finished : IsFinished network answers query ended.finished.table.items ended.finished.todo
+    pub walks_are : ended.finished.todo.walks ≡ walks
+    pub run : IsRunOf network answers query crew ended.ran
 
 -- How the run went, from what is solved.
 abbrev pub ran_of : {R T : Type 0} → Solved R T → Ran R T

@@ -4,7 +4,9 @@ use Rattle.rand_core.specs.Stream.{Stream}
 use Rattle.ea_labels.specs.Core as labels
 use Rattle.ea_pool.specs.Seats as pools
 use Rattle.ea_pool.specs.declared.heap.entry.Entry.{Entry}
+use Rattle.ea_base.specs.declared.limits.TheConstants.{SHARES}
 use Rattle.ea_engine.specs.declared.worker.means.Means.{Means}
+use Rattle.ea_engine.specs.declared.worker.means.Seats.{Seats}
 use Rattle.ea_engine.specs.declared.worker.turn.Lists.{Lists}
 use Rattle.ea_engine.specs.declared.worker.work_loop.WorkerEnd.{WorkerEnd}
 use Rattle.ea_engine.specs.Worked.{Kit, kit}
@@ -31,3 +33,8 @@ kit_with stream means lists = kit_of stream means lists.taken.items lists.fresh.
 
 abbrev pub kit_left : {K R T E : Type 0} → (R → Stream) → WorkerEnd K R T E → Kit
 kit_left stream end = kit end.label_seat.history end.pool_seat.account (stream end.rng) end.hand.taken.items end.hand.fresh.items
+
+-- The seats have all shares of their tables.
+pub record HaveAllShares {K E : Type 0} (seats : Seats K E) : Type 0 where
+  pub labels : seats.label_seat.history.shares ≡ SHARES
+  pub pool : seats.pool_seat.account.shares ≡ SHARES

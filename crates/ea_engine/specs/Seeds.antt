@@ -1,13 +1,21 @@
 -- Which sources lower a label, and how many of their entries the pool took and handed back.
-use Rattle.std.specs.Prelude.{◌≡◌, ℕ, ◌+◌, ◌≤◌, List, [], ◌∷◌, ◌++◌, length, Any}
+use Rattle.std.specs.Prelude.{◌≡◌, ℕ, ◌+◌, ◌^◌, ◌<◌, ◌≤◌, List, [], ◌∷◌, ◌++◌, length, Any, Contains}
 use Rattle.ea_base.specs.declared.limits.TheConstants.{SHARES}
 use Rattle.ea_road.specs.declared.source.Source.{Source}
+use Rattle.ea_search.specs.Worklist.{Worklist}
 use Rattle.ea_labels.specs.declared.record.SeatRecord.{SeatRecord}
-use Rattle.ea_labels.specs.Core.{lowered, lowering}
+use Rattle.ea_road.specs.Roads.{IsNode}
+use Rattle.ea_labels.specs.declared.record.Bound.{Bound}
+use Rattle.ea_labels.specs.Core.{first_record, lowered, lowering}
 use Rattle.ea_pool.specs.declared.shared.account.Account.{Account}
 use Rattle.ea_engine.specs.Closed.{IsReachedBy}
+use Rattle.ea_engine.specs.Gathered.{IsGathered}
+use Rattle.ea_engine.specs.Opened.{AreOffered}
+use Rattle.ea_engine.specs.Openings.{HoldsBack, Opens}
+use Rattle.ea_engine.specs.Problems.{Problem}
 use Rattle.ea_engine.specs.declared.worker.means.Seats.{Seats}
 use Rattle.ea_engine.specs.declared.run.seeds.Seeded.{Seeded}
+use Rattle.ea_engine.specs.declared.run.seeds.Seeds.{Seeds}
 use Rattle.ea_engine.specs.declared.run.seeds.Seeded.TheVariants.{Kept, Pushed, HandedBack}
 
 abbrev pub seeded_by : Seeded → ℕ
@@ -64,3 +72,38 @@ abbrev pub OffersSeed : Seeded → SeatRecord → SeatRecord → Source → Type
 OffersSeed Kept before after source = KeepsSeed before after source
 OffersSeed Pushed before after source = SowsSeed before after source
 OffersSeed HandedBack before after source = SowsSeed before after source
+
+-- A source at one of this many nodes that is known to be reached at its departure.
+pub record MayOffer (known : ℕ → ℕ → Type 0) (nodes : ℕ) (source : Source) : Type 0 where
+  pub node : IsNode nodes source.node
+  pub is_known : known source.node source.departure
+
+-- What offering a source does to the seats and a worklist.
+pub record HasOffered {K E : Type 0} (seeded : Seeded) (before after : Seats K E) (todo todo' : Worklist) (source : Source) : Type 0 where
+  pub reached : IsReachedBy after.label_seat.history.bounds source.node source.departure
+  pub bounds : (b : Bound) → Contains before.label_seat.history.bounds b → Contains after.label_seat.history.bounds b
+  pub offers : OffersSeed seeded before.label_seat.history after.label_seat.history source
+  pub step : HasPushed (seeded_by seeded) before after
+  pub opens : Opens (back_by seeded) todo todo'
+
+-- What pushing the entry of a source does, whose label fell.
+pub record HasSown (problem : Problem) (seeded : Seeded) (before after : Account) (todo todo' : Worklist) (source : Source) : Type 0 where
+  pub gathered : (r s : SeatRecord) → Lowers r source s → IsGathered problem r before todo.waiting → IsGathered problem s after todo'.waiting
+  pub offers : (r s : SeatRecord) → SowsSeed r s source → OffersSeed seeded r s source
+  pub step : Sows (seeded_by seeded) before after
+  pub opens : Opens (back_by seeded) todo todo'
+
+-- The seeding of an empty worklist with these sources: the nodes of those that were handed back wait.
+pub record IsSeeding (sources : List Source) (before after : Worklist) (seeds : Seeds) : Type 0 where
+  pub small : seeds.seeded + seeds.returned < 2 ^ 64
+  pub counted : AreSeeds sources (seeds.seeded + seeds.returned)
+  pub todo : HoldsBack before.nodes seeds.returned after
+  pub walks_are : after.walks ≡ before.walks
+
+-- What offering all sources in their order does to the seats and a worklist.
+pub record HaveOffered {K E : Type 0} (sources : List Source) (before after : Seats K E) (todo todo' : Worklist) (seeds : Seeds) : Type 0 where
+  pub offered : AreOffered sources after.label_seat.history
+  pub step : HasPushed seeds.seeded before after
+  pub opens : Opens seeds.returned todo todo'
+  pub small : seeds.seeded + seeds.returned < 2 ^ 64
+  pub counted : before.label_seat.history ≡ first_record → AreSeeds sources (seeds.seeded + seeds.returned)

@@ -8,7 +8,7 @@ use Rattle.ea_engine.specs.declared.worker.turn.TurnKind.{TurnKind}
 use Rattle.ea_engine.specs.declared.worker.turn.TurnKind.TheVariants.{Empty, Busy, Stale, Scanned, Refused, Cut}
 use Rattle.std.specs.List.{FoldsTo}
 use Rattle.rand_core.specs.Stream.{Stream}
-use Rattle.ea_road.specs.Roads.{Roads, IsNode}
+use Rattle.ea_road.specs.Roads.{IsNode}
 use Rattle.ea_pool.specs.declared.heap.entry.Entry.{Entry}
 use Rattle.ea_pool.specs.Entries.{SameEntries}
 use Rattle.ea_engine.specs.declared.settings.Pace.{Pace}
@@ -68,15 +68,15 @@ back_of h = option_to_list h.popped ++ h.taken.items
 abbrev pub hand_size : Hand → ℕ
 hand_size h = length (option_to_list h.popped) + array_vec_len h.taken + array_vec_len h.fresh
 
--- The entries are at nodes of the network.
-abbrev pub AreInside : Roads → List Entry → Type 0
-AreInside roads entries = (entry : Entry) → Contains entries entry → IsNode roads.nodes entry.node
+-- The entries are at some of this many nodes.
+abbrev pub AreInside : ℕ → List Entry → Type 0
+AreInside nodes entries = (entry : Entry) → Contains entries entry → IsNode nodes entry.node
 
--- The entries that a worker hands back are at nodes of the network.
-pub record IsHandInside (roads : Roads) (hand : Hand) : Type 0 where
-  pub popped : IfSome hand.popped (λ entry. IsNode roads.nodes entry.node)
-  pub taken : AreInside roads hand.taken.items
-  pub fresh : AreInside roads hand.fresh.items
+-- The entries that a worker hands back are at some of this many nodes.
+pub record IsHandInside (nodes : ℕ) (hand : Hand) : Type 0 where
+  pub popped : IfSome hand.popped (λ entry. IsNode nodes entry.node)
+  pub taken : AreInside nodes hand.taken.items
+  pub fresh : AreInside nodes hand.fresh.items
 
 -- A scan ends early exactly if a push was refused.
 abbrev pub IsBrokenAs : TurnKind → Option Entry → Type 0
@@ -155,7 +155,7 @@ module _ (problem : Problem) where
       pub closed : All (λ t. IsClosedTurn problem to.labels.bounds (option_to_list hand.popped) t.0) turns
       pub fresh : All (λ t. IsFreshTurn problem.query.target from.labels.bounds t.0) turns
       pub hand_popped : (entry : Entry) → Contains (option_to_list hand.popped) entry → Contains (visited_in_all turns) entry
-      pub hand_inside : IsHandInside problem.network hand
+      pub hand_inside : IsHandInside problem.network.nodes hand
       pub hand_few : hand_size hand ≤ 2 * pace.batch
       pub unvisited_is : counters.unvisited ≡ array_vec_len hand.taken
       pub returned_is : counters.returned ≡ hand_size hand

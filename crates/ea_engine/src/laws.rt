@@ -2,9 +2,8 @@
 ghost use Rattle.std.specs.Prelude.{◌≡◌, ℕ, ◌↔◌};
 ghost use Rattle.ea_travel_times.specs.Answers.{IsFifo};
 ghost use Rattle.ea_road.specs.Arrivals.{Reaches};
-ghost use Rattle.ea_road.specs.Queries.{IsProblem};
 ghost use Rattle.ea_engine.specs.Grounds.{IsGround};
-ghost use Rattle.ea_engine.specs.Problems.{IsNamed};
+ghost use Rattle.ea_engine.specs.Problems.{IsNamedProblem};
 ghost use Rattle.ea_engine.specs.Opened.{FinishMayBegin, NothingOpenIsLost};
 
 use crate::run::ground::Ground;
@@ -35,10 +34,8 @@ pub fn times_are_fifo<T: TravelTimes>(times: &T)
 /// What workers read is the ground of the problem that `K` names, if the label table has a place for each
 /// node. The types ensure that the network is one and that travel times are first in, first out.
 pub fn ground_is_laid<K: Known + Posed, E: EntryHeap, T: TravelTimes>(ground: &Ground<'_, K, T, E>)
-    requires problem { IsProblem ground.now.network.now (T.classes ground.now.times.now)
-        ground.now.query.now }
-    requires named { IsNamed K.is_known K.problem ground.now.network.now
-        (T.answers ground.now.times.now) ground.now.query.now }
+    requires named { IsNamedProblem K.is_known K.problem ground.now.network.now
+        (T.answers ground.now.times.now) (T.classes ground.now.times.now) ground.now.query.now }
     requires places { ground.now.labels.now.nodes ≡ ground.now.network.now.nodes }
     ensures { IsGround K.is_known K.problem T.answers T.classes ground.now }
 {

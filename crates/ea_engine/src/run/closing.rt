@@ -1,12 +1,10 @@
 //! From the workers' seats to the condition of the finishing pass.
-ghost use Rattle.std.specs.Prelude.{◌≡◌, ◌+◌, ◌<◌, ◌≤◌, ◌^◌, length};
-ghost use Rattle.ea_base.specs.declared.limits.TheConstants.{SHARES as LABEL_SHARES};
-ghost use Rattle.ea_base.specs.declared.limits.TheConstants.{SHARES};
-ghost use Rattle.ea_search.specs.Underway.{IsUnderway};
-ghost use Rattle.ea_engine.specs.Gathered.{IsGathered};
+ghost use Rattle.std.specs.Prelude.{◌≡◌, ◌<◌, ◌^◌, length};
+ghost use Rattle.ea_engine.specs.Gathered.{AccountForAll};
 ghost use Rattle.ea_engine.specs.Opened.{AreOffered};
 ghost use Rattle.ea_engine.specs.Problems.{IsPosed};
-ghost use Rattle.ea_engine.specs.Seated.{tables, AreSeatsOf};
+ghost use Rattle.ea_engine.specs.Rowed.{IsSettled};
+ghost use Rattle.ea_engine.specs.Seated.{tables, HaveAllShares};
 
 use crate::run::drained::drain;
 use crate::run::problem::Posed;
@@ -35,22 +33,11 @@ pub fn settle<K: Known + Posed, E: EntryHeap>(
 ) -> Settled
     requires posed { IsPosed K.is_known K.problem }
     requires places { labels.nodes ≡ K.problem.network.nodes }
-    requires fit { AreSeatsOf (tables labels pool) seats.label_seat seats.pool_seat }
-    requires label_shares { seats.label_seat.history.shares ≡ LABEL_SHARES }
-    requires pool_shares { seats.pool_seat.account.shares ≡ SHARES }
-    requires room { todo.nodes ≡ labels.nodes }
-    requires gathered { IsGathered K.problem seats.label_seat.history
-        seats.pool_seat.account todo.waiting }
+    requires account { AccountForAll K.problem (tables labels pool) labels.nodes seats todo }
+    requires shares { HaveAllShares seats }
     requires few { length seats.pool_seat.account.pushed < 2 ^ 127 }
     requires offered { AreOffered K.problem.query.sources seats.label_seat.history }
-    ensures underway { IsUnderway K.problem.network K.problem.answers K.problem.query
-        result.table.items result.todo.waiting }
-    ensures room { result.todo.nodes ≡ K.problem.network.nodes }
-    ensures walks { result.todo.walks ≡ todo.walks }
-    ensures drained { length seats.pool_seat.account.pushed
-        ≡ length seats.pool_seat.account.popped + result.drained }
-    ensures few { length result.todo.waiting ≤ length todo.waiting + result.drained }
-    ensures some { 0 < length todo.waiting + result.drained → 0 < length result.todo.waiting }
+    ensures { IsSettled K.problem seats.pool_seat.account todo result }
 {
     let Seats {
         label_seat,

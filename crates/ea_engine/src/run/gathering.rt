@@ -1,18 +1,15 @@
 //! Gathering the workers' results one by one.
-ghost use Rattle.std.specs.Prelude.{◌≡◌, ◌+◌, ◌*◌, ◌∷◌, [], ◌<◌, ◌≤◌, ◌^◌, ℕ, length, Contains, IfSome, vec_len};
+ghost use Rattle.std.specs.Prelude.{◌≡◌, ◌∷◌, [], ◌<◌, ◌^◌, length, Contains, IfSome, vec_len};
 ghost use Rattle.std.specs.Option.{option_to_list};
-ghost use Rattle.ea_base.specs.declared.limits.TheConstants.{SHARES as LABEL_SHARES};
-ghost use Rattle.ea_base.specs.declared.limits.TheConstants.{SHARES};
-ghost use Rattle.ea_base.specs.declared.limits.TheConstants.{MOST_BATCH, MOST_WORKERS};
-ghost use Rattle.arrayvec.specs.ArrayVec.{array_vec_len};
-ghost use Rattle.ea_pool.specs.declared.heap.entry.Entry.{Entry as Back};
+ghost use Rattle.ea_road.specs.Roads.{IsNode};
 ghost use Rattle.ea_engine.specs.Ends.{IsEnd};
-ghost use Rattle.ea_engine.specs.Gathered.{IsGathered};
-ghost use Rattle.ea_engine.specs.Grown.{AddsEnd, HasRoom, Joins, SameRoom};
+ghost use Rattle.ea_engine.specs.Gathered.{AccountForAll};
+ghost use Rattle.ea_engine.specs.Grown.{BeginsWith, HasRoom, Joins};
+ghost use Rattle.ea_engine.specs.Openings.{HoldsBack, Opens, OpensAll, OpensHand};
 ghost use Rattle.ea_engine.specs.Reserved.{AreUnfilled};
 ghost use Rattle.ea_engine.specs.Rowed.{IsFirstEnd, IsDoneRow, AreGathered, IsDonePlace, IsGatheredRow};
-ghost use Rattle.ea_engine.specs.Seated.{tables, AreSeatsOf};
-ghost use Rattle.ea_engine.specs.Worked.{hand_size};
+ghost use Rattle.ea_engine.specs.Seated.{tables};
+ghost use Rattle.ea_engine.specs.Worked.{AreInside, IsHandInside};
 
 use crate::run::problem::Posed;
 use crate::run::ran::Results;
@@ -39,15 +36,9 @@ pub struct Gathering<K: Known, R, F, E: EntryHeap = LeastHeap<Global>> {
 
 /// Opens the node of an entry, if there is one.
 pub fn keep(todo: &mut Open, entry: Option<Entry>)
-    requires node { IfSome entry (λ e. (0 < e.node) × (e.node ≤ todo.old.nodes)) }
-    ensures inside { IfSome entry (λ e. Contains todo.new.waiting e.node) }
-    ensures kept { (node : ℕ) → Contains todo.old.waiting node → Contains todo.new.waiting node }
-    ensures few { length todo.new.waiting
-        ≤ length todo.old.waiting + length (option_to_list entry) }
-    ensures some { 0 < length todo.old.waiting + length (option_to_list entry)
-        → 0 < length todo.new.waiting }
-    ensures room { todo.new.nodes ≡ todo.old.nodes }
-    ensures walks { todo.new.walks ≡ todo.old.walks }
+    requires { IfSome entry (λ e. IsNode todo.old.nodes e.node) }
+    ensures waits { IfSome entry (λ e. Contains todo.new.waiting e.node) }
+    ensures opens { Opens (length (option_to_list entry)) todo.old todo.new }
 {
     if let Some(entry) = entry {
         todo.add(entry.node);
@@ -56,16 +47,8 @@ pub fn keep(todo: &mut Open, entry: Option<Entry>)
 
 /// Opens the node of each entry of a batch.
 pub fn keep_all(todo: &mut Open, entries: &Batch)
-    requires nodes { (entry : Back) → Contains entries.now.items entry
-        → (0 < entry.node) × (entry.node ≤ todo.old.nodes) }
-    ensures inside { (entry : Back) → Contains entries.now.items entry
-        → Contains todo.new.waiting entry.node }
-    ensures kept { (node : ℕ) → Contains todo.old.waiting node → Contains todo.new.waiting node }
-    ensures few { length todo.new.waiting ≤ length todo.old.waiting + array_vec_len entries.now }
-    ensures some { 0 < length todo.old.waiting + array_vec_len entries.now
-        → 0 < length todo.new.waiting }
-    ensures room { todo.new.nodes ≡ todo.old.nodes }
-    ensures walks { todo.new.walks ≡ todo.old.walks }
+    requires { AreInside todo.old.nodes entries.now.items }
+    ensures { OpensAll entries.now.items todo.old todo.new }
 {
     for entry in entries.as_slice() {
         todo.add(entry.node);
@@ -74,21 +57,8 @@ pub fn keep_all(todo: &mut Open, entries: &Batch)
 
 /// Opens the nodes of what a worker hands back.
 pub fn keep_hand(todo: &mut Open, hand: &Hand)
-    requires popped { IfSome hand.now.popped (λ e. (0 < e.node) × (e.node ≤ todo.old.nodes)) }
-    requires taken { (entry : Back) → Contains hand.now.taken.items entry
-        → (0 < entry.node) × (entry.node ≤ todo.old.nodes) }
-    requires fresh { (entry : Back) → Contains hand.now.fresh.items entry
-        → (0 < entry.node) × (entry.node ≤ todo.old.nodes) }
-    ensures popped { IfSome hand.now.popped (λ e. Contains todo.new.waiting e.node) }
-    ensures taken { (entry : Back) → Contains hand.now.taken.items entry
-        → Contains todo.new.waiting entry.node }
-    ensures fresh { (entry : Back) → Contains hand.now.fresh.items entry
-        → Contains todo.new.waiting entry.node }
-    ensures kept { (node : ℕ) → Contains todo.old.waiting node → Contains todo.new.waiting node }
-    ensures few { length todo.new.waiting ≤ length todo.old.waiting + hand_size hand.now }
-    ensures some { 0 < length todo.old.waiting + hand_size hand.now → 0 < length todo.new.waiting }
-    ensures room { todo.new.nodes ≡ todo.old.nodes }
-    ensures walks { todo.new.walks ≡ todo.old.walks }
+    requires { IsHandInside todo.old.nodes hand.now }
+    ensures { OpensHand hand.now todo.old todo.new }
 {
     keep(todo, hand.popped);
     keep_all(todo, &hand.taken);
@@ -102,24 +72,14 @@ pub fn join_end<K: Known + Posed, E: EntryHeap, R: Drop, F: Drop>(
     gathering: &mut Gathering<K, R, F, E>,
     end: WorkerEnd<K, R, F, E>,
 )
-    requires fit { AreSeatsOf (tables labels.now pool.now)
-        gathering.old.seats.label_seat gathering.old.seats.pool_seat }
-    requires gathered { IsGathered K.problem gathering.old.seats.label_seat.history
-        gathering.old.seats.pool_seat.account gathering.old.todo.waiting }
-    requires nodes { gathering.old.todo.nodes ≡ K.problem.network.nodes }
+    requires account { AccountForAll K.problem (tables labels.now pool.now)
+        K.problem.network.nodes gathering.old.seats gathering.old.todo }
     requires room { HasRoom gathering.old.results }
     requires returned { gathering.old.returned < 2 ^ 127 }
     requires end { IsEnd K.problem (tables labels.now pool.now) end }
-    ensures fit { AreSeatsOf (tables labels.now pool.now)
-        gathering.new.seats.label_seat gathering.new.seats.pool_seat }
-    ensures gathered { IsGathered K.problem gathering.new.seats.label_seat.history
-        gathering.new.seats.pool_seat.account gathering.new.todo.waiting }
-    ensures nodes { gathering.new.todo.nodes ≡ K.problem.network.nodes }
-    ensures walks { gathering.new.todo.walks ≡ gathering.old.todo.walks }
+    ensures account { AccountForAll K.problem (tables labels.now pool.now)
+        K.problem.network.nodes gathering.new.seats gathering.new.todo }
     ensures joins { Joins end gathering.old gathering.new }
-    ensures returned_few { end.counters.returned ≤ 2 * MOST_BATCH }
-    ensures results { AddsEnd end gathering.old.results gathering.new.results }
-    ensures room { SameRoom gathering.old.results gathering.new.results }
 {
     let WorkerEnd {
         label_seat,
@@ -148,17 +108,11 @@ pub fn begin_gathering<K: Known + Posed, E: EntryHeap, R: Drop, F: Drop>(
     mut results: Results<R, F>,
 ) -> Gathering<K, R, F, E>
     requires end { IsFirstEnd K.problem (tables labels.now pool.now) seeds.seeded todo.waiting end }
-    requires nodes { todo.nodes ≡ K.problem.network.nodes }
-    requires few { length todo.waiting ≤ seeds.returned }
-    requires some { 0 < seeds.returned → 0 < length todo.waiting }
-    requires returned { seeds.returned < 2 ^ 126 }
+    requires todo { HoldsBack K.problem.network.nodes seeds.returned todo }
     requires results { AreUnfilled 1 results }
     ensures gathered { AreGathered K.problem (tables labels.now pool.now)
         seeds.seeded seeds.returned (end ∷ []) result }
-    ensures label_shares { result.seats.label_seat.history.shares ≡ end.label_seat.history.shares }
-    ensures pool_shares { result.seats.pool_seat.account.shares ≡ end.pool_seat.account.shares }
-    ensures walks { result.todo.walks ≡ todo.walks }
-    ensures room { SameRoom results result.results }
+    ensures begins { BeginsWith end todo results result }
 {
     let WorkerEnd {
         label_seat,
@@ -208,17 +162,11 @@ pub fn gather_row<K: Known + Posed, E: EntryHeap, R: Drop, F: Drop>(
 ) -> Gathering<K, R, F, E>
     requires row { IsDoneRow K.problem (tables labels.now pool.now)
         seeds.seeded todo.waiting row.items }
-    requires few_workers { vec_len row ≤ MOST_WORKERS }
-    requires nodes { todo.nodes ≡ K.problem.network.nodes }
-    requires few { length todo.waiting ≤ seeds.returned }
-    requires some { 0 < seeds.returned → 0 < length todo.waiting }
-    requires returned { seeds.returned < 2 ^ 126 }
+    requires todo { HoldsBack K.problem.network.nodes seeds.returned todo }
     requires results { AreUnfilled (vec_len row) results }
     ensures gathered { IsGatheredRow K.problem (tables labels.now pool.now)
         seeds.seeded seeds.returned row.items result }
     ensures walks { result.todo.walks ≡ todo.walks }
-    ensures label_shares { result.seats.label_seat.history.shares ≡ LABEL_SHARES }
-    ensures pool_shares { result.seats.pool_seat.account.shares ≡ SHARES }
 {
     let mut places = row.into_iter();
     let Some(place) = places.next() else {

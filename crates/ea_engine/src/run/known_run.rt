@@ -1,10 +1,7 @@
 //! A run up to its least arrivals, with the problem and the known pairs named by a type.
-ghost use Rattle.std.specs.Prelude.{◌≡◌, ℕ, ◌↔◌, true, IfOk};
-ghost use Rattle.ea_road.specs.Arrivals.{Reaches};
-ghost use Rattle.ea_road.specs.Queries.{IsProblem};
-ghost use Rattle.ea_search.specs.Underway.{IsFinished};
-ghost use Rattle.ea_engine.specs.Problems.{IsNamed};
-ghost use Rattle.ea_engine.specs.Runs.{IsCrew, IsRunOf};
+ghost use Rattle.std.specs.Prelude.{◌≡◌, true, IfOk};
+ghost use Rattle.ea_engine.specs.Problems.{IsNamedProblem};
+ghost use Rattle.ea_engine.specs.Runs.{IsCrew, IsEnded};
 
 use crate::laws::times_are_fifo;
 use crate::run::arrays::Arrays;
@@ -49,14 +46,11 @@ fn run_with<
     crew: Crew<R, G, F>,
     walks: bool,
 ) -> Result<Ended<R, F>, AllocError>
-    requires problem { IsProblem network.now (T.classes times.now) query.now }
-    requires named { IsNamed K.is_known K.problem network.now (T.answers times.now) query.now }
+    requires named { IsNamedProblem K.is_known K.problem network.now
+        (T.answers times.now) (T.classes times.now) query.now }
     requires crew { IsCrew F.IsAlwaysCallable crew }
-    ensures finished { IfOk result (λ ended. IsFinished network.now (T.answers times.now) query.now
-        ended.finished.table.items ended.finished.todo) }
-    ensures walks { IfOk result (λ ended. ended.finished.todo.walks ≡ walks) }
-    ensures run { IfOk result (λ ended.
-        IsRunOf R.stream F.step network.now (T.answers times.now) query.now crew.entry ended.ran) }
+    ensures { IfOk result (λ ended. IsEnded R.stream F.step network.now (T.answers times.now)
+        query.now crew.entry walks ended) }
 {
     times_are_fifo(times);
     let width = network.mean_weight();
@@ -99,14 +93,11 @@ pub fn run_named<
     crew: Crew<R, G, F>,
     walks: bool,
 ) -> Result<Ended<R, F>, AllocError>
-    requires problem { IsProblem network.now (T.classes times.now) query.now }
-    requires named { IsNamed K.is_known K.problem network.now (T.answers times.now) query.now }
+    requires named { IsNamedProblem K.is_known K.problem network.now
+        (T.answers times.now) (T.classes times.now) query.now }
     requires crew { IsCrew F.IsAlwaysCallable crew }
-    ensures finished { IfOk result (λ ended. IsFinished network.now (T.answers times.now) query.now
-        ended.finished.table.items ended.finished.todo) }
-    ensures walks { IfOk result (λ ended. ended.finished.todo.walks ≡ walks) }
-    ensures run { IfOk result (λ ended.
-        IsRunOf R.stream F.step network.now (T.answers times.now) query.now crew.entry ended.ran) }
+    ensures { IfOk result (λ ended. IsEnded R.stream F.step network.now (T.answers times.now)
+        query.now crew.entry walks ended) }
 {
     if takes_least(crew.settings) {
         return run_with::<K, LeastHeap<Global>, H, T, R, G, F>(

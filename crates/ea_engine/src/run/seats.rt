@@ -1,10 +1,8 @@
 //! The seats of the workers, and their row.
-ghost use Rattle.std.specs.Prelude.{◌≡◌, ℕ, ◌+◌, ◌-◌, ◌<◌, ◌≤◌, ◌∷◌, [], All, Contains, vec_len};
-ghost use Rattle.std.specs.Vec.{vec_capacity};
-ghost use Rattle.ea_engine.specs.Ends.{AreFresh};
-ghost use Rattle.ea_engine.specs.Rows.{IsSeated, IsSeatedRow};
-ghost use Rattle.ea_engine.specs.Seated.{tables, AreSeatsOf};
-ghost use Rattle.ea_engine.specs.Splits.{HasGiven};
+ghost use Rattle.ea_engine.specs.Reserved.{HaveSeated, IsEmptyFor, MaySeat};
+ghost use Rattle.ea_engine.specs.Rows.{IsSeated};
+ghost use Rattle.ea_engine.specs.Seated.{tables};
+ghost use Rattle.ea_engine.specs.Splits.{HasSplit, MayGive};
 
 use crate::run::row::{Place, Ready};
 use crate::worker::means::{Means, Seats};
@@ -21,17 +19,10 @@ pub fn split_seats<K: Known, E: EntryHeap>(
     count: usize,
     others: &mut Vec<Seats<K, E>>,
 )
-    requires fit { AreSeatsOf (tables labels.now pool.now)
-        seats.old.label_seat seats.old.pool_seat }
-    requires label_shares { count < seats.old.label_seat.history.shares }
-    requires pool_shares { count < seats.old.pool_seat.account.shares }
-    requires none { others.old.items ≡ [] }
-    requires room { count ≤ vec_capacity others.old }
-    ensures fit { AreSeatsOf (tables labels.now pool.now) seats.new.label_seat seats.new.pool_seat }
-    ensures gave { HasGiven count seats.old seats.new }
-    ensures len { vec_len others.new ≡ count }
-    ensures capacity { vec_capacity others.new ≡ vec_capacity others.old }
-    ensures fresh { All (AreFresh (tables labels.now pool.now)) others.new.items }
+    requires seats { MayGive (tables labels.now pool.now) count seats.old }
+    requires others { IsEmptyFor count others.old }
+    ensures { HasSplit (tables labels.now pool.now) count seats.old seats.new
+        others.old others.new }
 {
     for _ in 0..count {
         let pair = Seats {
@@ -49,12 +40,8 @@ pub fn seat_row<K: Known, E: EntryHeap, R: Drop, F: Drop>(
     tracers: Vec<F>,
     row: &mut Vec<Place<K, R, F, E>>,
 )
-    requires none { row.old.items ≡ [] }
-    requires room { vec_len rngs ≤ vec_capacity row.old }
-    requires seats { vec_len seats ≡ vec_len rngs }
-    requires tracers { vec_len tracers ≡ vec_len rngs }
-    ensures len { vec_len row.new ≡ vec_len rngs }
-    ensures seated { IsSeatedRow seats.items rngs.items tracers.items row.new.items }
+    requires may { MaySeat seats rngs tracers row.old }
+    ensures { HaveSeated seats rngs tracers row.new }
 {
     let mut seats = seats.into_iter();
     let mut tracers = tracers.into_iter();

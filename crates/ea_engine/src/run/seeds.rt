@@ -1,17 +1,8 @@
 //! Pushing the sources' entries, before any worker starts.
-ghost use Rattle.std.specs.Prelude.{◌≡◌, ◌≤◌, ◌<◌, ◌+◌, ◌^◌, length, Contains};
-ghost use Rattle.ea_road.specs.Roads.{IsNode};
-ghost use Rattle.ea_labels.specs.declared.record.Bound.{Bound};
-ghost use Rattle.ea_labels.specs.declared.record.SeatRecord.{SeatRecord};
-ghost use Rattle.ea_labels.specs.Core.{first_record};
 ghost use Rattle.ea_pool.specs.Seats.{account_of, IsSeatOf};
-ghost use Rattle.ea_engine.specs.Closed.{IsReachedBy};
-ghost use Rattle.ea_engine.specs.Gathered.{IsGathered};
+ghost use Rattle.ea_engine.specs.Gathered.{AccountForAll};
 ghost use Rattle.ea_engine.specs.Grounds.{IsGround, tables_of};
-ghost use Rattle.ea_engine.specs.Opened.{AreOffered};
-ghost use Rattle.ea_engine.specs.Seated.{AreSeatsOf};
-ghost use Rattle.ea_engine.specs.Seeds.{seeded_by, back_by, AreSeeds, HasPushed, OffersSeed};
-ghost use Rattle.ea_engine.specs.Seeds.{Lowers, Sows, SowsSeed};
+ghost use Rattle.ea_engine.specs.Seeds.{HasOffered, HasSown, HaveOffered, MayOffer};
 
 use crate::run::ground::Ground;
 use crate::run::problem::Posed;
@@ -50,25 +41,12 @@ pub fn seed<K: Known + Posed, E: EntryHeap, T: TravelTimes>(
     word: u64,
     source: Source,
 ) -> Seeded
-    requires fit { AreSeatsOf (tables_of ground.now) seats.old.label_seat seats.old.pool_seat }
-    requires node { IsNode ground.now.labels.now.nodes source.node }
-    requires room { todo.old.nodes ≡ ground.now.labels.now.nodes }
-    requires known { K.is_known source.node source.departure }
-    requires gathered { IsGathered K.problem
-        seats.old.label_seat.history seats.old.pool_seat.account todo.old.waiting }
-    ensures fit { AreSeatsOf (tables_of ground.now) seats.new.label_seat seats.new.pool_seat }
-    ensures room { todo.new.nodes ≡ todo.old.nodes }
-    ensures walks { todo.new.walks ≡ todo.old.walks }
-    ensures gathered { IsGathered K.problem
-        seats.new.label_seat.history seats.new.pool_seat.account todo.new.waiting }
-    ensures reached { IsReachedBy seats.new.label_seat.history.bounds source.node source.departure }
-    ensures bounds { (b : Bound) → Contains seats.old.label_seat.history.bounds b
-        → Contains seats.new.label_seat.history.bounds b }
-    ensures offers { OffersSeed result seats.old.label_seat.history
-        seats.new.label_seat.history source }
-    ensures step { HasPushed (seeded_by result) seats.old seats.new }
-    ensures few { length todo.new.waiting ≤ length todo.old.waiting + back_by result }
-    ensures some { 0 < length todo.old.waiting + back_by result → 0 < length todo.new.waiting }
+    requires account { AccountForAll K.problem (tables_of ground.now)
+        ground.now.labels.now.nodes seats.old todo.old }
+    requires source { MayOffer K.is_known ground.now.labels.now.nodes source }
+    ensures account { AccountForAll K.problem (tables_of ground.now)
+        ground.now.labels.now.nodes seats.new todo.new }
+    ensures offered { HasOffered result seats.old seats.new todo.old todo.new source }
 {
     let offered = ground
         .labels
@@ -88,19 +66,10 @@ fn sow<K: Known + Posed, E: EntryHeap>(
     source: Source,
 ) -> Seeded
     requires seat { IsSeatOf pool.now seat.old }
-    requires node { IsNode todo.old.nodes source.node }
-    requires known { K.is_known source.node source.departure }
+    requires source { MayOffer K.is_known todo.old.nodes source }
     ensures seat { IsSeatOf pool.now seat.new }
-    ensures room { todo.new.nodes ≡ todo.old.nodes }
-    ensures walks { todo.new.walks ≡ todo.old.walks }
-    ensures gathered { (before after : SeatRecord) → Lowers before source after
-        → IsGathered K.problem before (account_of seat.old) todo.old.waiting
-        → IsGathered K.problem after (account_of seat.new) todo.new.waiting }
-    ensures offers { (before after : SeatRecord)
-        → SowsSeed before after source → OffersSeed result before after source }
-    ensures step { Sows (seeded_by result) (account_of seat.old) (account_of seat.new) }
-    ensures few { length todo.new.waiting ≤ length todo.old.waiting + back_by result }
-    ensures some { 0 < length todo.old.waiting + back_by result → 0 < length todo.new.waiting }
+    ensures sown { HasSown K.problem result (account_of seat.old) (account_of seat.new)
+        todo.old todo.new source }
 {
     let entry = Entry {
         key: source.departure,
@@ -123,22 +92,12 @@ pub fn seed_all<K: Known + Posed, E: EntryHeap, T: TravelTimes>(
     todo: &mut Open,
 ) -> Seeds
     requires ground { IsGround K.is_known K.problem T.answers T.classes ground.now }
-    requires fit { AreSeatsOf (tables_of ground.now) seats.old.label_seat seats.old.pool_seat }
-    requires room { todo.old.nodes ≡ ground.now.labels.now.nodes }
-    requires gathered { IsGathered K.problem
-        seats.old.label_seat.history seats.old.pool_seat.account todo.old.waiting }
-    ensures fit { AreSeatsOf (tables_of ground.now) seats.new.label_seat seats.new.pool_seat }
-    ensures room { todo.new.nodes ≡ todo.old.nodes }
-    ensures walks { todo.new.walks ≡ todo.old.walks }
-    ensures gathered { IsGathered K.problem
-        seats.new.label_seat.history seats.new.pool_seat.account todo.new.waiting }
-    ensures offered { AreOffered K.problem.query.sources seats.new.label_seat.history }
-    ensures step { HasPushed result.seeded seats.old seats.new }
-    ensures few { length todo.new.waiting ≤ length todo.old.waiting + result.returned }
-    ensures some { 0 < result.returned → 0 < length todo.new.waiting }
-    ensures small { result.seeded + result.returned < 2 ^ 64 }
-    ensures counted { seats.old.label_seat.history ≡ first_record
-        → AreSeeds K.problem.query.sources (result.seeded + result.returned) }
+    requires account { AccountForAll K.problem (tables_of ground.now)
+        ground.now.labels.now.nodes seats.old todo.old }
+    ensures account { AccountForAll K.problem (tables_of ground.now)
+        ground.now.labels.now.nodes seats.new todo.new }
+    ensures offered { HaveOffered K.problem.query.sources seats.old seats.new
+        todo.old todo.new result }
 {
     let mut seeded = 0u128;
     let mut returned = 0u128;

@@ -1,18 +1,16 @@
 //! A run of the workers, from the seeds to the condition of the finishing pass.
-ghost use Rattle.std.specs.Prelude.{◌≡◌, ◌≤◌, ◌+◌, ◌-◌, ◌*◌, ◌^◌, ◌<◌, ℕ, ◌∷◌, [], List, length, vec_len};
+ghost use Rattle.std.specs.Prelude.{◌≡◌, ◌≤◌, ◌+◌, ◌*◌, ◌^◌, ◌<◌, ℕ, ◌∷◌, List, vec_len};
 ghost use Rattle.std.specs.Vec.{vec_capacity};
-ghost use Rattle.ea_base.specs.declared.limits.TheConstants.{SHARES as LABEL_SHARES};
-ghost use Rattle.ea_base.specs.declared.limits.TheConstants.{MOST_WORKERS, SHARES};
-ghost use Rattle.ea_road.specs.Queries.{IsProblem};
+ghost use Rattle.ea_base.specs.declared.limits.TheConstants.{MOST_WORKERS};
 ghost use Rattle.ea_engine.specs.Grounds.{IsGround, tables_of};
 ghost use Rattle.ea_engine.specs.Limits.{pace_of};
-ghost use Rattle.ea_engine.specs.Problems.{IsNamed, IsPosed};
-ghost use Rattle.ea_engine.specs.Reserved.{AreArrays, AreNew, AreUnfilled};
-ghost use Rattle.ea_engine.specs.Rowed.{AreSeated, HaveWorked, IsDoneRow, IsSeeded, IsSettledRow};
+ghost use Rattle.ea_engine.specs.Openings.{HoldsBack};
+ghost use Rattle.ea_engine.specs.Problems.{IsNamedProblem, IsPosed};
+ghost use Rattle.ea_engine.specs.Reserved.{AreArrays, AreReserved, AreUnfilled, HaveRoom};
+ghost use Rattle.ea_engine.specs.Rowed.{AreSeated, HaveWorked, IsBegun, IsDoneRow, IsSeeded, IsSettledRow};
 ghost use Rattle.ea_engine.specs.Runs.{IsCrew, IsRunOf};
-ghost use Rattle.ea_engine.specs.Seated.{tables, AreSeatsOf};
-ghost use Rattle.ea_engine.specs.Seeds.{AreSeeds};
-ghost use Rattle.ea_search.specs.Underway.{IsUnderway};
+ghost use Rattle.ea_engine.specs.Seated.{tables, AreSeatsOf, HaveAllShares};
+ghost use Rattle.ea_engine.specs.Seeds.{IsSeeding};
 
 use crate::laws::ground_is_laid;
 use crate::run::arrays::Arrays;
@@ -48,12 +46,10 @@ pub fn seat_workers<K: Known + Posed, E: EntryHeap + Send + Sync, R: Drop, F: Dr
     row: &mut Vec<Place<K, R, F, E>>,
 )
     requires fit { AreSeatsOf (tables labels.now pool.now) seats.label_seat seats.pool_seat }
-    requires label_shares { seats.label_seat.history.shares ≡ LABEL_SHARES }
-    requires pool_shares { seats.pool_seat.account.shares ≡ SHARES }
+    requires shares { HaveAllShares seats }
     requires workers { (1 ≤ vec_len rngs) × (vec_len rngs ≤ MOST_WORKERS)
         × (vec_len tracers ≡ vec_len rngs) }
-    requires none { (others.items ≡ []) × (row.old.items ≡ []) }
-    requires room { (vec_len rngs ≤ vec_capacity others) × (vec_len rngs ≤ vec_capacity row.old) }
+    requires room { HaveRoom (vec_len rngs) others row.old }
     ensures len { vec_len row.new ≡ vec_len rngs }
     ensures seated { (seeded : ℕ) (waiting : List ℕ)
         → IsSeeded K.problem (tables labels.now pool.now) seeded waiting seats
@@ -103,19 +99,10 @@ fn work_row<
     crew: Crew<R, G, F>,
 ) -> Seeds
     requires ground { IsGround K.is_known K.problem T.answers T.classes ground.now }
-    requires seats { AreNew (tables_of ground.now) seats }
-    requires none { (others.items ≡ []) × (row.old.items ≡ []) }
-    requires room { (crew.settings.workers ≤ vec_capacity others)
-        × (crew.settings.workers ≤ vec_capacity row.old) }
-    requires nodes { todo.old.nodes ≡ ground.now.labels.now.nodes }
-    requires waiting { todo.old.waiting ≡ [] }
+    requires reserved { AreReserved (tables_of ground.now) ground.now.labels.now.nodes
+        crew.settings.workers seats todo.old others row.old }
     requires crew { IsCrew F.IsAlwaysCallable crew }
-    ensures nodes { todo.new.nodes ≡ todo.old.nodes }
-    ensures walks { todo.new.walks ≡ todo.old.walks }
-    ensures few { length todo.new.waiting ≤ result.returned }
-    ensures some { 0 < result.returned → 0 < length todo.new.waiting }
-    ensures small { result.seeded + result.returned < 2 ^ 64 }
-    ensures seeds { AreSeeds K.problem.query.sources (result.seeded + result.returned) }
+    ensures seeding { IsSeeding K.problem.query.sources todo.old todo.new result }
     ensures len { vec_len row.new ≡ crew.entry.settings.workers }
     ensures worked { HaveWorked K.problem (tables_of ground.now) R.stream F.step
         (pace_of crew.entry.settings) result.seeded todo.new.waiting
@@ -153,16 +140,11 @@ fn settle_row<K: Known + Posed, E: EntryHeap, R: Drop, F: Drop>(
     requires posed { IsPosed K.is_known K.problem }
     requires places { labels.nodes ≡ K.problem.network.nodes }
     requires row { IsDoneRow K.problem (tables labels pool) seeds.seeded todo.waiting row.items }
-    requires few_workers { vec_len row ≤ MOST_WORKERS }
-    requires nodes { todo.nodes ≡ labels.nodes }
-    requires few { length todo.waiting ≤ seeds.returned }
-    requires some { 0 < seeds.returned → 0 < length todo.waiting }
+    requires todo { HoldsBack labels.nodes seeds.returned todo }
     requires small { seeds.seeded + seeds.returned < 2 ^ 64 }
     requires results { AreUnfilled (vec_len row) results }
-    ensures underway { IsUnderway K.problem.network K.problem.answers K.problem.query
-        result.table.items result.todo.waiting }
-    ensures nodes { result.todo.nodes ≡ K.problem.network.nodes }
-    ensures walks { result.todo.walks ≡ todo.walks }
+    ensures begun { IsBegun K.problem.network K.problem.answers K.problem.query
+        todo.walks result }
     ensures row { IsSettledRow seeds.seeded seeds.returned row.items result.ran }
 {
     let Gathering {
@@ -203,15 +185,13 @@ pub fn run<
     arrays: Arrays<K, R, F, E>,
     crew: Crew<R, G, F>,
 ) -> Begun<R, F>
-    requires problem { IsProblem network.now (T.classes times.now) query.now }
-    requires named { IsNamed K.is_known K.problem network.now (T.answers times.now) query.now }
+    requires named { IsNamedProblem K.is_known K.problem network.now
+        (T.answers times.now) (T.classes times.now) query.now }
     requires crew { IsCrew F.IsAlwaysCallable crew }
     requires arrays { AreArrays network.now.nodes (crew.settings.workers * crew.settings.heaps)
         crew.settings.workers arrays.todo.walks arrays }
-    ensures underway { IsUnderway network.now (T.answers times.now) query.now
-        result.table.items result.todo.waiting }
-    ensures nodes { result.todo.nodes ≡ network.now.nodes }
-    ensures walks { result.todo.walks ≡ arrays.todo.walks }
+    ensures begun { IsBegun network.now (T.answers times.now) query.now
+        arrays.todo.walks result }
     ensures run { IsRunOf R.stream F.step network.now (T.answers times.now) query.now
         crew.entry result.ran }
 {

@@ -1,6 +1,6 @@
 //! Termination detection: workers notice together that nothing is left to do.
 ghost use Rattle.std.specs.Prelude.{◌≡◌, ℕ, ◌+◌, ◌/◌, ◌<◌, ◌≤◌, ◌⊎◌, false};
-ghost use Rattle.ea_engine.specs.Companies.{idle_with, IsIdleFor, IsLook, KeepsCounts, LeavesAs, LooksOnce};
+ghost use Rattle.ea_engine.specs.Companies.{idle_with, FindsEntry, FindsNothing, IsIdleFor, KeepsCounts, LeavesAs, LooksOnce};
 
 use crate::worker::turn::{Flow, Turn, TurnKind};
 use std::sync::atomic::Ordering::SeqCst;
@@ -179,11 +179,7 @@ impl Member<'_> {
 
     #[inline(never)]
     fn found_nothing(&mut self) -> Flow
-        ensures leaves { result ≡ Flow.Leave → 384 ≤ self.old.quiet }
-        ensures idle { self.new.idle ≤ self.old.idle + 1 }
-        ensures quiet { (self.new.quiet ≡ 0) ⊎ (self.new.quiet ≡ self.old.quiet)
-            ⊎ ((self.new.quiet ≤ self.old.quiet + 1) × (127 ≤ self.old.idle)) }
-        ensures alone { self.new.alone ≡ self.old.alone }
+        ensures { FindsNothing self.old self.new result }
     {
         self.idle = self.idle.saturating_add(1);
         if self.idle < IDLE_AFTER {
@@ -238,10 +234,7 @@ impl Member<'_> {
     }
 
     fn found_entry(&mut self, number: u64) -> Flow
-        ensures leaves { result ≡ Flow.Leave → IsLook number
-            × ((255 ≤ self.old.alone) ⊎ (self.old.company.now.most_falls < NO_LIMIT)) }
-        ensures idle { (self.new.idle ≡ 0) × (self.new.quiet ≡ 0) }
-        ensures alone { LooksOnce number self.old self.new }
+        ensures { FindsEntry number self.old self.new result }
     {
         if self.idle >= IDLE_AFTER {
             self.company.idle.fetch_sub(1, SeqCst);

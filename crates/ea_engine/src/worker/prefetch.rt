@@ -1,10 +1,8 @@
 //! Prefetches for visits. The loads of a loop don't depend on one another, so that many overlap. No result
 //! depends on the values.
-ghost use Rattle.std.specs.Prelude.{◌≡◌};
 ghost use Rattle.ea_pool.specs.Entries.{AreKnown};
 ghost use Rattle.ea_road.specs.Roads.{IsNode};
-ghost use Rattle.ea_engine.specs.Grounds.{IsGround};
-ghost use Rattle.ea_engine.specs.Worked.{OnlySaw};
+ghost use Rattle.ea_engine.specs.Equipped.{MayRead, OnlyRead};
 
 use crate::run::ground::Ground;
 use crate::run::problem::Posed;
@@ -22,11 +20,9 @@ fn read_places<K: Known + Posed, E: EntryHeap, T: TravelTimes>(
     seat: &mut LabelSeat<K>,
     entries: &[Entry],
 ) -> u32
-    requires ground { IsGround K.is_known K.problem T.answers T.classes ground.now }
-    requires seat { seat.old.table ≡ ground.now.labels.now.table }
+    requires seat { MayRead K.is_known K.problem T.answers T.classes ground.now seat.old }
     requires known { AreKnown K.is_known entries.now }
-    ensures seat { seat.new.table ≡ seat.old.table }
-    ensures saw { OnlySaw seat.old.history seat.new.history }
+    ensures { OnlyRead seat.old seat.new }
 {
     let mut places = 0;
     for entry in entries {
@@ -51,11 +47,9 @@ fn read_heads<K: Known + Posed, E: EntryHeap, T: TravelTimes>(
     seat: &mut LabelSeat<K>,
     node: u32,
 )
-    requires ground { IsGround K.is_known K.problem T.answers T.classes ground.now }
-    requires seat { seat.old.table ≡ ground.now.labels.now.table }
+    requires seat { MayRead K.is_known K.problem T.answers T.classes ground.now seat.old }
     requires node { IsNode K.problem.network.nodes node }
-    ensures seat { seat.new.table ≡ seat.old.table }
-    ensures saw { OnlySaw seat.old.history seat.new.history }
+    ensures { OnlyRead seat.old seat.new }
 {
     for arc in ground.network.leaving(node).arcs {
         ground.labels.read(seat, arc.head);
@@ -69,11 +63,9 @@ pub fn read_ahead<K: Known + Posed, E: EntryHeap, T: TravelTimes>(
     seat: &mut LabelSeat<K>,
     entries: &[Entry],
 )
-    requires ground { IsGround K.is_known K.problem T.answers T.classes ground.now }
-    requires seat { seat.old.table ≡ ground.now.labels.now.table }
+    requires seat { MayRead K.is_known K.problem T.answers T.classes ground.now seat.old }
     requires known { AreKnown K.is_known entries.now }
-    ensures seat { seat.new.table ≡ seat.old.table }
-    ensures saw { OnlySaw seat.old.history seat.new.history }
+    ensures { OnlyRead seat.old seat.new }
 {
     if entries.len() < FEW {
         return;

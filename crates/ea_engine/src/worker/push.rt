@@ -1,10 +1,7 @@
 //! Pushing the fresh entries of a worker.
-ghost use Rattle.std.specs.Prelude.{◌≡◌, ◌<◌, ◌≤◌, true, false, []};
-ghost use Rattle.arrayvec.specs.ArrayVec.{array_vec_len};
-ghost use Rattle.ea_labels.specs.declared.record.SeatRecord.{SeatRecord};
 ghost use Rattle.ea_pool.specs.Entries.{AreKnown};
 ghost use Rattle.ea_pool.specs.Seats.{account_of, IsSeatOf};
-ghost use Rattle.ea_engine.specs.Worked.{kit, Progress};
+ghost use Rattle.ea_engine.specs.Equipped.{PushesFresh};
 
 use ea_pool::{Batch, EntryHeap, Pool, PoolSeat};
 use ea_road::Known;
@@ -22,13 +19,8 @@ pub fn push_fresh<K: Known, E: EntryHeap, R: Rng>(
     requires pool_seat { IsSeatOf pool.now pool_seat.old }
     requires known { AreKnown K.is_known fresh.old.items }
     ensures pool_seat { IsSeatOf pool.now pool_seat.new }
-    ensures known { AreKnown K.is_known fresh.new.items }
-    ensures progress { (history : SeatRecord)
-        → Progress (kit history (account_of pool_seat.old) (R.stream rng.old) [] fresh.old.items)
-        (kit history (account_of pool_seat.new) (R.stream rng.new) [] fresh.new.items) [] 1 0 }
-    ensures all { result ≡ true → fresh.new.items ≡ [] }
-    ensures some { result ≡ false → 0 < array_vec_len fresh.new }
-    ensures few { array_vec_len fresh.new ≤ array_vec_len fresh.old }
+    ensures fresh { PushesFresh K.is_known (account_of pool_seat.old) (account_of pool_seat.new)
+        (R.stream rng.old) (R.stream rng.new) fresh.old.items fresh.new.items result }
 {
     let word = rng.next_u64();
     match pool.push_all_as(pool_seat, word, fresh) {

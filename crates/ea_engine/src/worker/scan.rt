@@ -1,13 +1,11 @@
-ghost use Rattle.std.specs.Prelude.{◌≡◌, ℕ, ◌<◌, ◌≤◌, [], ◌^◌, true, false};
-ghost use Rattle.arrayvec.specs.ArrayVec.{array_vec_len};
-ghost use Rattle.ea_base.specs.declared.limits.TheConstants.{HORIZON, MOST_BATCH};
+ghost use Rattle.std.specs.Prelude.{◌≡◌, ℕ, ◌≤◌, [], true};
+ghost use Rattle.ea_base.specs.declared.limits.TheConstants.{HORIZON};
 ghost use Rattle.ea_road.specs.Roads.{IsArc};
-ghost use Rattle.ea_pool.specs.Entries.{AreKnown};
-ghost use Rattle.ea_engine.specs.Grounds.{IsGround, tables_of};
-ghost use Rattle.ea_engine.specs.Seated.{AreSeatsOf, kit_of};
-ghost use Rattle.ea_engine.specs.Closed.{IsFollowed, IsScanned};
-ghost use Rattle.ea_engine.specs.Worked.{OnlySaw, Progress};
-ghost use Rattle.ea_engine.specs.Scans.{stops_scan, lowered_by, pushes_by, LeavesFew};
+ghost use Rattle.ea_engine.specs.Closed.{IsFollowed};
+ghost use Rattle.ea_engine.specs.Equipped.{AreMeans, MayFollow, MayRead, MayRelax, OnlyRead};
+ghost use Rattle.ea_engine.specs.Grounds.{tables_of};
+ghost use Rattle.ea_engine.specs.Scans.{IsRelaxed, IsScan};
+ghost use Rattle.ea_engine.specs.Seated.{kit_of};
 
 use crate::run::ground::Ground;
 use crate::run::problem::Posed;
@@ -52,12 +50,10 @@ fn is_ahead<K: Known + Posed, E: EntryHeap, T: TravelTimes>(
     departure: u64,
     arc: Arc,
 ) -> bool
-    requires ground { IsGround K.is_known K.problem T.answers T.classes ground.now }
-    requires seat { seat.old.table ≡ ground.now.labels.now.table }
+    requires seat { MayRead K.is_known K.problem T.answers T.classes ground.now seat.old }
     requires departure { departure ≤ HORIZON }
     requires arc { (number : ℕ) × IsArc K.problem.network number arc }
-    ensures seat { seat.new.table ≡ seat.old.table }
-    ensures saw { OnlySaw seat.old.history seat.new.history }
+    ensures saw { OnlyRead seat.old seat.new }
     ensures followed { result ≡ true
         → IsFollowed K.problem seat.new.history.bounds departure arc }
 {
@@ -78,20 +74,12 @@ fn ask_and_offer<K: Known + Posed, E: EntryHeap, T: TravelTimes, R: Rng>(
     entry: Entry,
     arc: Arc,
 ) -> Followed
-    requires ground { IsGround K.is_known K.problem T.answers T.classes ground.now }
-    requires seats { AreSeatsOf (tables_of ground.now) means.old.label_seat means.old.pool_seat }
-    requires fresh { AreKnown K.is_known fresh.old.items }
-    requires room { (array_vec_len fresh.old < batch) × (batch ≤ MOST_BATCH) }
-    requires entry { K.is_known entry.node entry.key }
-    requires arc { (number : ℕ) × IsArc K.problem.network number arc }
-    requires tail { arc.tail ≡ entry.node }
-    ensures seats { AreSeatsOf (tables_of ground.now) means.new.label_seat means.new.pool_seat }
-    ensures fresh { AreKnown K.is_known fresh.new.items }
-    ensures progress { Progress (kit_of R.stream means.old [] fresh.old.items)
-        (kit_of R.stream means.new [] fresh.new.items) [] (pushes_by result) (lowered_by result) }
-    ensures left { LeavesFew (stops_scan result) batch (array_vec_len fresh.new) }
-    ensures one { batch ≡ 1 → pushes_by result ≡ lowered_by result }
-    ensures spent { IsFollowed K.problem means.new.label_seat.history.bounds entry.key arc }
+    requires means { MayRelax K.is_known K.problem T.answers T.classes ground.now
+        batch means.old fresh.old.items }
+    requires arc { MayFollow K.is_known K.problem.network entry arc }
+    ensures means { AreMeans K.is_known (tables_of ground.now) means.new fresh.new.items }
+    ensures relaxed { IsRelaxed K.problem batch (kit_of R.stream means.old [] fresh.old.items)
+        (kit_of R.stream means.new [] fresh.new.items) entry arc result }
 {
     let arrival = ground
         .times
@@ -132,20 +120,12 @@ pub fn follow<K: Known + Posed, E: EntryHeap, T: TravelTimes, R: Rng>(
     entry: Entry,
     arc: Arc,
 ) -> Followed
-    requires ground { IsGround K.is_known K.problem T.answers T.classes ground.now }
-    requires seats { AreSeatsOf (tables_of ground.now) means.old.label_seat means.old.pool_seat }
-    requires fresh { AreKnown K.is_known fresh.old.items }
-    requires room { (array_vec_len fresh.old < batch) × (batch ≤ MOST_BATCH) }
-    requires entry { K.is_known entry.node entry.key }
-    requires arc { (number : ℕ) × IsArc K.problem.network number arc }
-    requires tail { arc.tail ≡ entry.node }
-    ensures seats { AreSeatsOf (tables_of ground.now) means.new.label_seat means.new.pool_seat }
-    ensures fresh { AreKnown K.is_known fresh.new.items }
-    ensures progress { Progress (kit_of R.stream means.old [] fresh.old.items)
-        (kit_of R.stream means.new [] fresh.new.items) [] (pushes_by result) (lowered_by result) }
-    ensures left { LeavesFew (stops_scan result) batch (array_vec_len fresh.new) }
-    ensures one { batch ≡ 1 → pushes_by result ≡ lowered_by result }
-    ensures spent { IsFollowed K.problem means.new.label_seat.history.bounds entry.key arc }
+    requires means { MayRelax K.is_known K.problem T.answers T.classes ground.now
+        batch means.old fresh.old.items }
+    requires arc { MayFollow K.is_known K.problem.network entry arc }
+    ensures means { AreMeans K.is_known (tables_of ground.now) means.new fresh.new.items }
+    ensures relaxed { IsRelaxed K.problem batch (kit_of R.stream means.old [] fresh.old.items)
+        (kit_of R.stream means.new [] fresh.new.items) entry arc result }
 {
     if is_ahead(ground, &mut means.label_seat, entry.key, arc) {
         return Followed::Unchanged;
@@ -162,22 +142,12 @@ pub fn scan_entry<K: Known + Posed, E: EntryHeap, T: TravelTimes, R: Rng>(
     batch: usize,
     entry: Entry,
 ) -> ScanEnd
-    requires ground { IsGround K.is_known K.problem T.answers T.classes ground.now }
-    requires seats { AreSeatsOf (tables_of ground.now) means.old.label_seat means.old.pool_seat }
-    requires fresh { AreKnown K.is_known fresh.old.items }
-    requires room { (array_vec_len fresh.old < batch) × (batch ≤ MOST_BATCH) }
+    requires means { MayRelax K.is_known K.problem T.answers T.classes ground.now
+        batch means.old fresh.old.items }
     requires entry { K.is_known entry.node entry.key }
-    ensures seats { AreSeatsOf (tables_of ground.now) means.new.label_seat means.new.pool_seat }
-    ensures fresh { AreKnown K.is_known fresh.new.items }
-    ensures progress { Progress (kit_of R.stream means.old [] fresh.old.items)
-        (kit_of R.stream means.new [] fresh.new.items) [] result.pushes result.lowered }
-    ensures left { LeavesFew result.refused batch (array_vec_len fresh.new) }
-    ensures scanned { result.refused ≡ false
-        → IsScanned K.problem means.new.label_seat.history.bounds entry }
-    ensures refused { result.refused ≡ true → 0 < result.lowered }
-    ensures few { result.lowered ≤ 2 ^ 28 }
-    ensures pushes { result.pushes ≤ result.lowered }
-    ensures one { batch ≡ 1 → result.pushes ≡ result.lowered }
+    ensures means { AreMeans K.is_known (tables_of ground.now) means.new fresh.new.items }
+    ensures scan { IsScan K.problem batch (kit_of R.stream means.old [] fresh.old.items)
+        (kit_of R.stream means.new [] fresh.new.items) entry result }
 {
     let mut lowered = 0;
     let mut pushes = 0;

@@ -1,6 +1,6 @@
-ghost use Rattle.std.specs.Prelude.{◌≡◌, ◌≤◌, ◌^◌, []};
+ghost use Rattle.std.specs.Prelude.{◌≡◌, ◌≤◌};
 ghost use Rattle.arrayvec.specs.ArrayVec.{array_vec_len};
-ghost use Rattle.ea_engine.specs.Turns.{closed_by, counted, AreTurnCounts, IsRoomy};
+ghost use Rattle.ea_engine.specs.Turns.{closed_by, counted, AreNoCounts, IsCountable, IsRoomy};
 
 use crate::worker::counters::Counters;
 use crate::worker::turn::{Hand, TurnEnd, TurnKind};
@@ -8,9 +8,7 @@ use crate::worker::turn::{Hand, TurnEnd, TurnKind};
 impl Counters {
     /// Counters at 0.
     pub(crate) fn new() -> Counters
-        ensures turns { AreTurnCounts [] result }
-        ensures pops { result.pops ≡ 0 }
-        ensures pushes { result.pushes ≡ 0 }
+        ensures { AreNoCounts result }
     {
         Counters {
             turns: 0,
@@ -33,9 +31,7 @@ impl Counters {
     /// Counts a turn.
     pub(crate) fn count(&mut self, end: &TurnEnd)
         requires room { IsRoomy self.old }
-        requires lowered { end.now.turn.lowered ≤ 2 ^ 28 }
-        requires pops { end.now.pops ≤ 1 }
-        requires pushes { end.now.pushes ≤ 2 ^ 30 }
+        requires end { IsCountable end.now }
         ensures { self.new ≡ counted self.old end.now }
     {
         self.turns += 1;

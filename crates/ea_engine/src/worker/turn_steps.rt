@@ -1,19 +1,13 @@
 //! One turn of a worker.
 ghost use Rattle.std.specs.Prelude.{◌≡◌, ◌≤◌, ◌<◌, ◌+◌, [], true, false};
 ghost use Rattle.arrayvec.specs.ArrayVec.{array_vec_len};
-ghost use Rattle.ea_base.specs.declared.limits.TheConstants.{MOST_BATCH, SHARES};
-ghost use Rattle.ea_pool.specs.Batches.{IsLowest, MatchSome, PopsSome};
-ghost use Rattle.ea_pool.specs.Entries.{AreKnown};
-ghost use Rattle.ea_pool.specs.Pools.{NothingLeft, SameBooks};
-ghost use Rattle.ea_pool.specs.Seats.{account_of, heaps_of, IsSeatOf};
-ghost use Rattle.ea_pool.specs.Tries.{LookedAt, TookLesser, WasBusy};
-ghost use Rattle.ea_pool.specs.declared.shared.words.TheConstants.{EMPTY};
-ghost use Rattle.ea_engine.specs.Grounds.{IsGround, tables_of};
-ghost use Rattle.ea_engine.specs.Holds.{IsVisit, TookSome};
+ghost use Rattle.ea_pool.specs.Seats.{heaps_of, IsSeatOf};
+ghost use Rattle.ea_engine.specs.Equipped.{AreHeld, HoldNothing, MayTurn};
+ghost use Rattle.ea_engine.specs.Grounds.{tables_of};
+ghost use Rattle.ea_engine.specs.Holds.{IsVisit, MayTake, PopsDrawn};
 ghost use Rattle.ea_engine.specs.Looks.{first_heap, second_heap, SawAs};
-ghost use Rattle.ea_engine.specs.Seated.{AreSeatsOf, kit_of, kit_with};
+ghost use Rattle.ea_engine.specs.Seated.{kit_with};
 ghost use Rattle.ea_engine.specs.Turns.{is_refused};
-ghost use Rattle.ea_engine.specs.Words.{after_words};
 ghost use Rattle.ea_engine.specs.Worked.{IsTurn};
 
 use crate::run::ground::Ground;
@@ -32,8 +26,7 @@ use std::alloc::Global;
 impl Lists {
     /// No entry.
     pub(crate) fn empty() -> Lists
-        ensures taken { result.taken.items ≡ [] }
-        ensures fresh { result.fresh.items ≡ [] }
+        ensures { HoldNothing result }
     {
         Lists {
             taken: Batch::new(),
@@ -51,24 +44,10 @@ fn pop_drawn<K: Known, E: EntryHeap, R: Rng>(
     taken: &mut Batch,
 ) -> PoppedSome
     requires pool_seat { IsSeatOf pool.now pool_seat.old }
-    requires none { taken.old.items ≡ [] }
-    requires most { (0 < most) × (most ≤ MOST_BATCH) }
+    requires taken { MayTake most taken.old.items }
     ensures pool_seat { IsSeatOf pool.now pool_seat.new }
-    ensures popped { MatchSome result
-        (TookSome K.is_known E.kind (heaps_of pool.now) most taken.new.items
-        (account_of pool_seat.old) (account_of pool_seat.new))
-        (SameBooks (account_of pool_seat.old) (account_of pool_seat.new) × (taken.new.items ≡ []))
-        (SameBooks (account_of pool_seat.old) (account_of pool_seat.new) × (taken.new.items ≡ [])) }
-    ensures looked { let i = first_heap (heaps_of pool.now) (R.stream rng.old) in
-        let j = second_heap (heaps_of pool.now) (R.stream rng.old) in
-        MatchSome result (Unit {0})
-        (LookedAt i EMPTY j EMPTY pool_seat.old.seen pool_seat.new.seen)
-        (WasBusy i j pool_seat.old.seen pool_seat.new.seen) }
-    ensures alone { (account_of pool_seat.old).shares ≡ SHARES
-        → MatchSome result (Unit {0}) (Unit {0}) ⊥ }
-    ensures nothing { (account_of pool_seat.old).shares ≡ SHARES → heaps_of pool.now ≡ 2
-        → MatchSome result (Unit {0}) (NothingLeft (account_of pool_seat.old)) (Unit {0}) }
-    ensures words { R.stream rng.new ≡ after_words 2 (R.stream rng.old) }
+    ensures drawn { PopsDrawn K.is_known E.kind (heaps_of pool.now) most taken.new.items
+        pool_seat.old pool_seat.new (R.stream rng.old) (R.stream rng.new) result }
 {
     let first = rng.next_u64();
     let second = rng.next_u64();
@@ -87,16 +66,10 @@ fn visit_taken<K: Known + Posed, E: EntryHeap, T: TravelTimes, R: Rng>(
     batch: usize,
     number: u64,
 ) -> TurnEnd
-    requires ground { IsGround K.is_known K.problem T.answers T.classes ground.now }
-    requires target { target ≡ K.problem.query.target }
-    requires seats { AreSeatsOf (tables_of ground.now) means.old.label_seat means.old.pool_seat }
-    requires taken { (0 < array_vec_len lists.old.taken)
-        × AreKnown K.is_known lists.old.taken.items }
-    requires fresh { AreKnown K.is_known lists.old.fresh.items }
-    requires room { (array_vec_len lists.old.fresh < batch) × (batch ≤ MOST_BATCH) }
-    ensures seats { AreSeatsOf (tables_of ground.now) means.new.label_seat means.new.pool_seat }
-    ensures taken { AreKnown K.is_known lists.new.taken.items }
-    ensures fresh { AreKnown K.is_known lists.new.fresh.items }
+    requires means { MayTurn K.is_known K.problem T.answers T.classes ground.now
+        target batch means.old lists.old }
+    requires taken { 0 < array_vec_len lists.old.taken }
+    ensures means { AreHeld K.is_known (tables_of ground.now) means.new lists.new }
     ensures visit { IsVisit K.problem batch (kit_with R.stream means.old lists.old)
         (kit_with R.stream means.new lists.new) number result }
 {
@@ -123,16 +96,10 @@ fn visit_first<K: Known + Posed, E: EntryHeap, T: TravelTimes, R: Rng>(
     batch: usize,
     number: u64,
 ) -> TurnEnd
-    requires ground { IsGround K.is_known K.problem T.answers T.classes ground.now }
-    requires target { target ≡ K.problem.query.target }
-    requires seats { AreSeatsOf (tables_of ground.now) means.old.label_seat means.old.pool_seat }
-    requires taken { (0 < array_vec_len lists.old.taken)
-        × AreKnown K.is_known lists.old.taken.items }
-    requires fresh { AreKnown K.is_known lists.old.fresh.items }
-    requires room { (array_vec_len lists.old.fresh < batch) × (batch ≤ MOST_BATCH) }
-    ensures seats { AreSeatsOf (tables_of ground.now) means.new.label_seat means.new.pool_seat }
-    ensures taken { AreKnown K.is_known lists.new.taken.items }
-    ensures fresh { AreKnown K.is_known lists.new.fresh.items }
+    requires means { MayTurn K.is_known K.problem T.answers T.classes ground.now
+        target batch means.old lists.old }
+    requires taken { 0 < array_vec_len lists.old.taken }
+    ensures means { AreHeld K.is_known (tables_of ground.now) means.new lists.new }
     ensures visit { IsVisit K.problem batch (kit_with R.stream means.old lists.old)
         (kit_with R.stream means.new lists.new) number result }
 {
@@ -149,15 +116,10 @@ fn pop_and_visit<K: Known + Posed, E: EntryHeap, T: TravelTimes, R: Rng>(
     batch: usize,
     number: u64,
 ) -> TurnEnd
-    requires ground { IsGround K.is_known K.problem T.answers T.classes ground.now }
-    requires target { target ≡ K.problem.query.target }
-    requires seats { AreSeatsOf (tables_of ground.now) means.old.label_seat means.old.pool_seat }
+    requires means { MayTurn K.is_known K.problem T.answers T.classes ground.now
+        target batch means.old lists.old }
     requires taken { lists.old.taken.items ≡ [] }
-    requires fresh { AreKnown K.is_known lists.old.fresh.items }
-    requires room { (array_vec_len lists.old.fresh < batch) × (batch ≤ MOST_BATCH) }
-    ensures seats { AreSeatsOf (tables_of ground.now) means.new.label_seat means.new.pool_seat }
-    ensures taken { AreKnown K.is_known lists.new.taken.items }
-    ensures fresh { AreKnown K.is_known lists.new.fresh.items }
+    ensures means { AreHeld K.is_known (tables_of ground.now) means.new lists.new }
     ensures turn { IsTurn K.problem E.kind batch (tables_of ground.now).pool.heaps
         (kit_with R.stream means.old lists.old)
         (kit_with R.stream means.new lists.new) number result }
@@ -193,16 +155,10 @@ fn visit_next<K: Known + Posed, E: EntryHeap, T: TravelTimes, R: Rng>(
     batch: usize,
     number: u64,
 ) -> TurnEnd
-    requires ground { IsGround K.is_known K.problem T.answers T.classes ground.now }
-    requires target { target ≡ K.problem.query.target }
-    requires seats { AreSeatsOf (tables_of ground.now) means.old.label_seat means.old.pool_seat }
-    requires taken { (array_vec_len lists.old.taken < batch)
-        × AreKnown K.is_known lists.old.taken.items }
-    requires fresh { AreKnown K.is_known lists.old.fresh.items }
-    requires room { (array_vec_len lists.old.fresh < batch) × (batch ≤ MOST_BATCH) }
-    ensures seats { AreSeatsOf (tables_of ground.now) means.new.label_seat means.new.pool_seat }
-    ensures taken { AreKnown K.is_known lists.new.taken.items }
-    ensures fresh { AreKnown K.is_known lists.new.fresh.items }
+    requires means { MayTurn K.is_known K.problem T.answers T.classes ground.now
+        target batch means.old lists.old }
+    requires taken { array_vec_len lists.old.taken < batch }
+    ensures means { AreHeld K.is_known (tables_of ground.now) means.new lists.new }
     ensures turn { IsTurn K.problem E.kind batch (tables_of ground.now).pool.heaps
         (kit_with R.stream means.old lists.old)
         (kit_with R.stream means.new lists.new) number result }
@@ -231,16 +187,10 @@ pub fn take_turn<K: Known + Posed, E: EntryHeap, T: TravelTimes, R: Rng>(
     batch: usize,
     number: u64,
 ) -> TurnEnd
-    requires ground { IsGround K.is_known K.problem T.answers T.classes ground.now }
-    requires target { target ≡ K.problem.query.target }
-    requires seats { AreSeatsOf (tables_of ground.now) means.old.label_seat means.old.pool_seat }
-    requires taken { (array_vec_len lists.old.taken < batch)
-        × AreKnown K.is_known lists.old.taken.items }
-    requires fresh { AreKnown K.is_known lists.old.fresh.items }
-    requires room { (array_vec_len lists.old.fresh < batch) × (batch ≤ MOST_BATCH) }
-    ensures seats { AreSeatsOf (tables_of ground.now) means.new.label_seat means.new.pool_seat }
-    ensures taken { AreKnown K.is_known lists.new.taken.items }
-    ensures fresh { AreKnown K.is_known lists.new.fresh.items }
+    requires means { MayTurn K.is_known K.problem T.answers T.classes ground.now
+        target batch means.old lists.old }
+    requires taken { array_vec_len lists.old.taken < batch }
+    ensures means { AreHeld K.is_known (tables_of ground.now) means.new lists.new }
     ensures turn { IsTurn K.problem E.kind batch (tables_of ground.now).pool.heaps
         (kit_with R.stream means.old lists.old)
         (kit_with R.stream means.new lists.new) number result }

@@ -1,18 +1,12 @@
 //! A worker visits an entry.
-ghost use Rattle.std.specs.Prelude.{◌≡◌, ◌≤◌, ◌<◌, ◌^◌, [], ◌∷◌, true, None, Contains, IfSome};
-ghost use Rattle.std.specs.Option.{option_to_list};
-ghost use Rattle.arrayvec.specs.ArrayVec.{array_vec_len};
-ghost use Rattle.ea_base.specs.declared.limits.TheConstants.{MOST_BATCH};
-ghost use Rattle.ea_engine.specs.Grounds.{IsGround, tables_of};
-ghost use Rattle.ea_engine.specs.Seated.{AreSeatsOf, kit_of};
-ghost use Rattle.rand_core.specs.Stream.{Stream};
+ghost use Rattle.std.specs.Prelude.{◌≡◌, [], true, None, IfSome};
 ghost use Rattle.ea_road.specs.Roads.{IsNode};
-ghost use Rattle.ea_pool.specs.Entries.{AreKnown};
-ghost use Rattle.ea_pool.specs.declared.shared.account.Account.{Account};
-ghost use Rattle.ea_pool.specs.declared.heap.entry.Entry.{Entry as PoolEntry};
-ghost use Rattle.ea_engine.specs.Closed.{IsClosedTurn, IsCut, IsFreshTurn};
-ghost use Rattle.ea_engine.specs.Turns.{is_idle, is_refused, is_leave, IsShaped, visited_in};
-ghost use Rattle.ea_engine.specs.Worked.{kit, Progress, IsBrokenAs, IsLeftAs};
+ghost use Rattle.ea_engine.specs.Closed.{TellsCut};
+ghost use Rattle.ea_engine.specs.Equipped.{AreMeans, MayRelax, OnlyRead};
+ghost use Rattle.ea_engine.specs.Grounds.{tables_of};
+ghost use Rattle.ea_engine.specs.Holds.{IsVisitOf};
+ghost use Rattle.ea_engine.specs.Seated.{kit_of};
+ghost use Rattle.ea_engine.specs.Turns.{is_idle, is_refused, is_leave, IsIdleTurn};
 
 use crate::run::ground::Ground;
 use crate::run::problem::Posed;
@@ -54,13 +48,7 @@ impl Flow {
 /// A turn that popped and found nothing.
 pub(crate) fn idle_turn(number: u64, kind: TurnKind) -> TurnEnd
     requires { is_idle kind ≡ true }
-    ensures number { result.turn.number ≡ number }
-    ensures kind { result.turn.kind ≡ kind }
-    ensures shaped { IsShaped result.turn }
-    ensures lowered { result.turn.lowered ≡ 0 }
-    ensures broken { result.broken ≡ None }
-    ensures pops { result.pops ≡ 1 }
-    ensures pushes { result.pushes ≡ 0 }
+    ensures { IsIdleTurn number kind result }
 {
     TurnEnd {
         turn: Turn {
@@ -85,12 +73,8 @@ fn is_above_target<K: Known>(
 ) -> bool
     requires seat { seat.old.table ≡ labels.now.table }
     requires target { IfSome target (λ node. IsNode labels.now.nodes node) }
-    ensures seat { seat.new.table ≡ labels.now.table }
-    ensures progress { (account : Account) (words : Stream)
-        → Progress (kit seat.old.history account words [] [])
-        (kit seat.new.history account words [] []) [] 0 0 }
-    ensures cut { result ≡ true → IsCut target seat.new.history.bounds entry }
-    ensures known { IsCut target seat.old.history.bounds entry → result ≡ true }
+    ensures saw { OnlyRead seat.old seat.new }
+    ensures cut { TellsCut target seat.old.history.bounds seat.new.history.bounds entry result }
 {
     match target {
         None => false,
@@ -133,32 +117,13 @@ pub fn visit<K: Known + Posed, E: EntryHeap, T: TravelTimes, R: Rng>(
     number: u64,
     entry: Entry,
 ) -> TurnEnd
-    requires ground { IsGround K.is_known K.problem T.answers T.classes ground.now }
+    requires means { MayRelax K.is_known K.problem T.answers T.classes ground.now
+        batch means.old fresh.old.items }
     requires target { target ≡ K.problem.query.target }
-    requires seats { AreSeatsOf (tables_of ground.now) means.old.label_seat means.old.pool_seat }
-    requires fresh { AreKnown K.is_known fresh.old.items }
-    requires room { (array_vec_len fresh.old < batch) × (batch ≤ MOST_BATCH) }
     requires entry { K.is_known entry.node entry.key }
-    ensures seats { AreSeatsOf (tables_of ground.now) means.new.label_seat means.new.pool_seat }
-    ensures known { AreKnown K.is_known fresh.new.items }
-    ensures number { result.turn.number ≡ number }
-    ensures visited { visited_in result.turn ≡ entry ∷ [] }
-    ensures shaped { IsShaped result.turn }
-    ensures few { result.turn.lowered ≤ 2 ^ 28 }
-    ensures broken { IsBrokenAs result.turn.kind result.broken }
-    ensures inside { IfSome result.broken (λ e. IsNode K.problem.network.nodes e.node) }
-    ensures from { (popped : PoolEntry) → Contains (option_to_list result.broken) popped
-        → Contains (visited_in result.turn) popped }
-    ensures progress { Progress (kit_of R.stream means.old [] fresh.old.items)
-        (kit_of R.stream means.new [] fresh.new.items) [] result.pushes result.turn.lowered }
-    ensures left { IsLeftAs result.turn.kind batch (array_vec_len fresh.new) }
-    ensures pops { result.pops ≡ 0 }
-    ensures pushes { result.pushes ≤ result.turn.lowered }
-    ensures one { batch ≡ 1 → result.pushes ≡ result.turn.lowered }
-    ensures closed { IsClosedTurn K.problem means.new.label_seat.history.bounds
-        (option_to_list result.broken) result.turn }
-    ensures fresh { IsFreshTurn K.problem.query.target
-        means.old.label_seat.history.bounds result.turn }
+    ensures means { AreMeans K.is_known (tables_of ground.now) means.new fresh.new.items }
+    ensures visited { IsVisitOf K.problem batch entry (kit_of R.stream means.old [] fresh.old.items)
+        (kit_of R.stream means.new [] fresh.new.items) number result }
 {
     let label = ground.labels.read(&mut means.label_seat, entry.node);
     if label < entry.key {

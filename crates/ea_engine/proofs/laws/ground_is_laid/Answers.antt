@@ -4,9 +4,9 @@ use Rattle.ea_engine.proofs.laws.ground_is_laid.Goals as goal
 
 pub returns : goal.returns
 returns g c = record {
-  posed = posed_of _ _ _ _ _ c.requires.named _ c.keeps_limits.ensures c.requires.problem;
-  named = c.requires.named;
-  classed = classed_of _ _ _ _ _ c.requires.named _ c.requires.problem;
+  posed = posed_of _ _ _ _ _ c.requires.named.named _ c.keeps_limits.ensures c.requires.named.is_problem;
+  named = c.requires.named.named;
+  classed = classed_of _ _ _ _ _ c.requires.named.named _ c.requires.named.is_problem;
   fifo = c.times_are_fifo.ensures;
-  places_are = c.requires.places ∙ ap (λ n. n.nodes) c.requires.named.network_is;
+  places_are = c.requires.places ∙ ap (λ n. n.nodes) c.requires.named.named.network_is;
 }

@@ -1,14 +1,16 @@
-use Rattle.std.proofs.Common.{◌∷◌, sym, ◌∙◌, arith, subst, inl, inr}
+use Rattle.std.proofs.Common.{◌∷◌, length, ap, refl, sym, arith, subst, inl, inr}
 use Rattle.std.specs.Prelude.{Contains}
 use Rattle.ea_pool.specs.declared.heap.entry.Entry.{Entry}
 use Rattle.ea_engine.proofs.Multisets.{Contains-head, Contains-later, Contains-same, Contains-tail, same_length}
+use Rattle.ea_engine.specs.Openings.{Opens}
+use Rattle.ea_engine.proofs.OpeningLemmas.{Opens-none, Opens-added, Opens-then}
 use Rattle.ea_engine.proofs.run.drained.drain.Goals as goal
 
 pub add-requires : goal.add-requires
 add-requires g c =
     let here = Contains-same (c.in-Some.entry ∷ c.next_of_any.new.self) c.loop-entry.closed c.in-Some.entry (λ f. sym (c.in-Some.ensures f)) (Contains-head c.in-Some.entry c.next_of_any.new.self) in
     let is = c.requires.nodes c.in-Some.entry (c.loop-entry.invariant.left c.in-Some.entry here) in
-    (is.0, omega (arith, is.1, c.loop-entry.invariant.room))
+    (is.from_one, omega (arith, is.to_last, c.loop-entry.invariant.opens.nodes_are))
 
 pub loop-entry-preserved : goal.loop-entry-preserved
 loop-entry-preserved g c =
@@ -23,19 +25,23 @@ loop-entry-preserved g c =
         ]
         | inr waits ↦ inr (c.add.ensures.kept e.node waits)
       ];
-      kept = λ node inside. c.add.ensures.kept node (c.loop-entry.invariant.kept node inside);
       counted = omega (arith, c.loop-entry.invariant.counted, same_length c.loop-entry.closed (entry ∷ rest) c.in-Some.ensures);
-      few = omega (arith, c.loop-entry.invariant.few, c.add.ensures.at_most_one);
-      some = λ more. omega (arith, c.add.ensures.inside.1);
-      room = c.add.ensures.room.0 ∙ c.loop-entry.invariant.room;
-      walks = c.add.ensures.room.1 ∙ c.loop-entry.invariant.walks;
+      opens = Opens-then _ _ _ _ 1 _ c.loop-entry.invariant.opens (Opens-added _ _ entry.node c.add.ensures.kept c.add.ensures.inside c.add.ensures.at_most_one c.add.ensures.room) refl;
     }
 
+pub loop-entry-init : goal.loop-entry-init
+loop-entry-init g c = record { left = λ entry inside. inside; done = λ entry inside. inl inside; counted = omega arith; opens = Opens-none _ }
+
 pub returns-clause-drained : goal.returns-clause-drained
-returns-clause-drained g c = λ entry inside. elim (c.loop-entry.invariant.done entry inside) [
-  | inl stays ↦ absurd (omega (arith, (rw c.in_default.ensures.0 at stays).1))
-  | inr waits ↦ waits
-]
+returns-clause-drained g c =
+    let inv = c.loop-entry.invariant in
+    record {
+      waits = λ entry inside. elim (inv.done entry inside) [
+        | inl stays ↦ absurd (omega (arith, (rw c.in_default.ensures.0 at stays).1))
+        | inr waits ↦ waits
+      ];
+      opens = subst (λ n. Opens n c.args.todo.now c.loop-entry.todo) (omega (arith, inv.counted, ap length c.in_default.ensures.0)) inv.opens;
+    }
 
 pub overflow_add-drained : goal.overflow_add-drained
 overflow_add-drained g c =

@@ -1,19 +1,16 @@
-use Rattle.std.proofs.Common.{◌≡◌, ◌<◌, ◌≤◌, ◌+◌, ℕ, ◌⊎◌, length}
+use Rattle.std.proofs.Common.{◌≡◌, ◌+◌, ◌⊎◌, length}
 use Rattle.std.specs.Prelude.{Contains}
 use Rattle.ea_pool.specs.declared.heap.entry.Entry.{Entry}
 use Rattle.ea_machine.specs.Totals.{total}
+use Rattle.ea_engine.specs.Openings.{Opens}
 use Rattle.ea_engine.proofs.run.drained.drain.Given as goal
 
 abbrev pub invariant-loop-entry : goal.invariant-loop-entry
 invariant-loop-entry g l = record {
   left : (entry : Entry) → Contains l.closed entry → Contains l.fn.closed entry;
   done : (entry : Entry) → Contains l.fn.closed entry → Contains l.closed entry ⊎ Contains l.todo.waiting entry.node;
-  kept : (node : ℕ) → Contains l.fn.todo.waiting node → Contains l.todo.waiting node;
   counted : l.drained + length l.closed ≡ length l.fn.closed;
-  few : length l.todo.waiting ≤ length l.fn.todo.waiting + l.drained;
-  some : 0 < length l.fn.todo.waiting + l.drained → 0 < length l.todo.waiting;
-  room : l.todo.nodes ≡ l.fn.todo.nodes;
-  walks : l.todo.walks ≡ l.fn.todo.walks;
+  opens : Opens l.drained l.fn.todo l.todo;
 }
 
 abbrev pub decreases-loop-entry : goal.decreases-loop-entry

@@ -1,5 +1,5 @@
-use Rattle.std.proofs.Common.{[], ◌∷◌, ◌++◌, ◌∙◌, ap, arith}
-use Rattle.ea_engine.specs.Worked.{back_of}
+use Rattle.std.proofs.Common.{[], ◌∷◌, ◌++◌, ◌∙◌, ap, arith, refl, sym, subst}
+use Rattle.ea_engine.specs.Worked.{back_of, IsHandInside}
 use Rattle.ea_engine.proofs.JoinLemmas.{waits_hand}
 use Rattle.ea_engine.proofs.RowedLemmas.{waits_first}
 use Rattle.ea_engine.proofs.run.gathering.begin_gathering.Goals as goal
@@ -10,14 +10,16 @@ returns-clause-gathered g c =
     let hand = c.args.end.hand in
     let k = c.keep_hand.ensures in
     record {
-      fit = e.fit;
-      gathered = record {
-        back = e.handed.back ++ back_of hand;
-        refused = e.handed.refused ++ hand.fresh.items;
-        closed = e.handed.closed;
-        waits = waits_hand e.handed.back e.handed.refused hand _ _ e.handed.waits k.kept k.popped k.taken k.fresh;
+      account = record {
+        fit = e.fit;
+        gathered = record {
+          back = e.handed.back ++ back_of hand;
+          refused = e.handed.refused ++ hand.fresh.items;
+          closed = e.handed.closed;
+          waits = waits_hand e.handed.back e.handed.refused hand _ _ e.handed.waits k.opens.kept k.popped k.taken k.fresh;
+        };
+        nodes_are = k.opens.nodes_are ∙ c.requires.todo.nodes_are;
       };
-      nodes = k.room ∙ c.requires.nodes;
       offered = e.offered;
       counters_are = c.push_reserved.ensures.items ∙ ap (λ xs. xs ++ c.args.end.counters ∷ []) c.requires.results.counters;
       rngs_are = c.push_reserved-2.ensures.items ∙ ap (λ xs. xs ++ c.args.end.rng ∷ []) c.requires.results.rngs;
@@ -27,16 +29,17 @@ returns-clause-gathered g c =
       popped_is = omega (arith, e.popped_is);
       returned_is = omega (arith, c.from.ensures);
       returned_few = omega (arith, c.from.ensures, e.returned_is, e.returned_few);
-      few = omega (arith, c.from.ensures, e.returned_is, k.few, c.requires.few);
-      some = λ more. k.some (waits_first _ c.args.seeds.returned _ _ c.requires.some (omega (arith, c.from.ensures, e.returned_is)) more);
+      few = omega (arith, c.from.ensures, e.returned_is, k.opens.few, c.requires.todo.few);
+      some = λ more. k.opens.some (waits_first _ c.args.seeds.returned _ _ c.requires.todo.some (omega (arith, c.from.ensures, e.returned_is)) more);
     }
 
-pub keep_hand-requires-clause-taken : goal.keep_hand-requires-clause-taken
-keep_hand-requires-clause-taken g c = λ entry inside.
-    let is = c.requires.end.inside.taken entry inside in
-    (is.from_one, omega (arith, is.to_last, c.requires.nodes))
+pub keep_hand-requires : goal.keep_hand-requires
+keep_hand-requires g c = subst (λ n. IsHandInside n c.args.end.hand) (sym c.requires.todo.nodes_are) c.requires.end.inside
 
-pub keep_hand-requires-clause-fresh : goal.keep_hand-requires-clause-fresh
-keep_hand-requires-clause-fresh g c = λ entry inside.
-    let is = c.requires.end.inside.fresh entry inside in
-    (is.from_one, omega (arith, is.to_last, c.requires.nodes))
+pub returns-clause-begins : goal.returns-clause-begins
+returns-clause-begins g c = record {
+  label_shares = refl;
+  pool_shares = refl;
+  walks = c.keep_hand.ensures.opens.walks_are;
+  room = record { counters = c.push_reserved.ensures.capacity; rngs = c.push_reserved-2.ensures.capacity; tracers = c.push_reserved-3.ensures.capacity };
+}

@@ -33,10 +33,10 @@ loop-place-init g c =
       gathered = c.begin_gathering-gathering.ensures.gathered;
       row_is = sym c.into_iter-places.ensures.rest ∙ c.in-Some.ensures.items ∙ ap (λ p. p ∷ into_iter_items c.next.new.self) c.end_at.ensures.end ∙ ap (λ ps. place.Done c.end_at.result ∷ ps) (sym same);
       rest = subst (λ ps. All (IsEndPlace g.K.Posed.problem (tables c.args.labels.now c.args.pool.now)) ps) others c.requires.row.other_ends;
-      walks = c.begin_gathering-gathering.ensures.walks;
-      label_shares = omega (arith, c.requires.row.label_shares, c.begin_gathering-gathering.ensures.label_shares, ap (λ e. e.label_seat.history.shares) first, ap length others);
-      pool_shares = omega (arith, c.requires.row.pool_shares, c.begin_gathering-gathering.ensures.pool_shares, ap (λ e. e.pool_seat.account.shares) first, ap length others);
-      room = c.begin_gathering-gathering.ensures.room;
+      walks = c.begin_gathering-gathering.ensures.begins.walks;
+      label_shares = omega (arith, c.requires.row.label_shares, c.begin_gathering-gathering.ensures.begins.label_shares, ap (λ e. e.label_seat.history.shares) first, ap length others);
+      pool_shares = omega (arith, c.requires.row.pool_shares, c.begin_gathering-gathering.ensures.begins.pool_shares, ap (λ e. e.pool_seat.account.shares) first, ap length others);
+      room = c.begin_gathering-gathering.ensures.begins.room;
     }
 
 pub end_at-requires-in-loop-place-clause-done : goal.end_at-requires-in-loop-place-clause-done
@@ -74,16 +74,16 @@ loop-place-preserved g c =
       can_next = tt;
       is_finite = tt;
       ends = inv.ends ++ end ∷ [];
-      gathered = gathered_more _ _ c.args.seeds.seeded c.args.seeds.returned inv.ends end c.loop-place.gathering c.join_end.new.gathering inv.gathered e.fit e.gathered e.nodes e.joins e.returned_few is.pushed_few e.results;
+      gathered = gathered_more _ _ c.args.seeds.seeded c.args.seeds.returned inv.ends end c.loop-place.gathering c.join_end.new.gathering inv.gathered e.account e.joins is.pushed_few;
       row_is = all_done-more c.args.row.items inv.ends end c.in-Some-place.place _ _ inv.row_is steps c.end_at-in-loop-place.ensures.end;
       rest = All-tail (IsEndPlace g.K.Posed.problem (tables c.args.labels.now c.args.pool.now)) c.in-Some-place.place _ (rw steps at inv.rest);
-      walks = e.walks ∙ inv.walks;
+      walks = e.joins.opens.walks_are ∙ inv.walks;
       label_shares = omega (arith, inv.label_shares, e.joins.label_shares, ap length steps);
       pool_shares = omega (arith, inv.pool_shares, e.joins.pool_shares, ap length steps);
       room = record {
-        counters = e.room.counters ∙ inv.room.counters;
-        rngs = e.room.rngs ∙ inv.room.rngs;
-        tracers = e.room.tracers ∙ inv.room.tracers;
+        counters = e.joins.room.counters ∙ inv.room.counters;
+        rngs = e.joins.room.rngs ∙ inv.room.rngs;
+        tracers = e.joins.room.tracers ∙ inv.room.tracers;
       };
     }
 
@@ -96,19 +96,11 @@ returns-clause-gathered g c =
       ends = inv.ends;
       row_is = inv.row_is ∙ nothing_after (all_done inv.ends) _ ended;
       all = inv.gathered;
+      shares = record { labels = omega (arith, inv.label_shares, ended); pool = omega (arith, inv.pool_shares, ended) };
     }
 
-pub begin_gathering-gathering-requires-clause-nodes : goal.begin_gathering-gathering-requires-clause-nodes
-begin_gathering-gathering-requires-clause-nodes g c κs within = c.requires.nodes
-
-pub begin_gathering-gathering-requires-clause-few : goal.begin_gathering-gathering-requires-clause-few
-begin_gathering-gathering-requires-clause-few g c κs within = c.requires.few
-
-pub begin_gathering-gathering-requires-clause-some : goal.begin_gathering-gathering-requires-clause-some
-begin_gathering-gathering-requires-clause-some g c κs within = c.requires.some
-
-pub begin_gathering-gathering-requires-clause-returned : goal.begin_gathering-gathering-requires-clause-returned
-begin_gathering-gathering-requires-clause-returned g c κs within = c.requires.returned
+pub begin_gathering-gathering-requires-clause-todo : goal.begin_gathering-gathering-requires-clause-todo
+begin_gathering-gathering-requires-clause-todo g c κs within = c.requires.todo
 
 pub begin_gathering-gathering-requires-clause-results : goal.begin_gathering-gathering-requires-clause-results
 begin_gathering-gathering-requires-clause-results g c κs within =
@@ -127,20 +119,13 @@ pub end_at-requires-clause-done : goal.end_at-requires-clause-done
 end_at-requires-clause-done g c κs within =
     first_place_done c.args.row.items c.requires.row.first c.in-Some.place c.requires.row.others (into_iter_items c.next.new.self) c.requires.row.row_is (sym c.into_iter-places.ensures.rest ∙ c.in-Some.ensures.items)
 
-pub join_end-requires-clause-fit : goal.join_end-requires-clause-fit
-join_end-requires-clause-fit g c κs within = c.loop-place.invariant.gathered.fit
+pub join_end-requires-clause-account : goal.join_end-requires-clause-account
+join_end-requires-clause-account g c κs within = c.loop-place.invariant.gathered.account
 
-pub join_end-requires-clause-gathered : goal.join_end-requires-clause-gathered
-join_end-requires-clause-gathered g c κs within = c.loop-place.invariant.gathered.gathered
-
-pub join_end-requires-clause-nodes : goal.join_end-requires-clause-nodes
-join_end-requires-clause-nodes g c κs within = c.loop-place.invariant.gathered.nodes
+pub join_end-requires-clause-returned : goal.join_end-requires-clause-returned
+join_end-requires-clause-returned g c κs within =
+    let d = (goal.at.join_end-requires-clause-returned g c).After-gathering-1 in
+    omega (arith, c.loop-place.invariant.gathered.returned_few, counted g d, c.requires.row.few, c.requires.todo.back_few)
 
 pub returns-clause-walks : goal.returns-clause-walks
 returns-clause-walks g c = c.loop-place.invariant.walks
-
-pub returns-clause-label_shares : goal.returns-clause-label_shares
-returns-clause-label_shares g c = omega (arith, c.loop-place.invariant.label_shares, c.in-None.ensures.steps.0, c.loop-place.place-iterator.rest.ok.0)
-
-pub returns-clause-pool_shares : goal.returns-clause-pool_shares
-returns-clause-pool_shares g c = omega (arith, c.loop-place.invariant.pool_shares, c.in-None.ensures.steps.0, c.loop-place.place-iterator.rest.ok.0)

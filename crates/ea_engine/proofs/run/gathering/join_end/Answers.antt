@@ -1,12 +1,28 @@
-use Rattle.std.proofs.Common.{◌+◌, ◌∙◌, length, length-append, ap, arith}
+use Rattle.std.proofs.Common.{◌+◌, ◌∙◌, length, length-append, ap, arith, subst, sym}
 use Rattle.std.proofs.lemmas.List.Elements.{Contains-append_right}
+use Rattle.ea_engine.specs.Openings.{Opens}
+use Rattle.ea_engine.specs.Worked.{IsHandInside}
 use Rattle.ea_engine.proofs.JoinLemmas.{gathered_joined}
 use Rattle.ea_engine.proofs.run.gathering.join_end.Goals as goal
 
-pub returns-clause-gathered : goal.returns-clause-gathered
-returns-clause-gathered g c =
+pub join-requires-clause-same_table : goal.join-requires-clause-same_table
+join-requires-clause-same_table g c κs within = c.requires.account.fit.labels
+
+pub join-requires-2-clause-seats : goal.join-requires-2-clause-seats
+join-requires-2-clause-seats g c κs within = (c.requires.account.fit.pool, c.requires.end.fit.pool)
+
+pub keep_hand-requires : goal.keep_hand-requires
+keep_hand-requires g c = subst (λ n. IsHandInside n c.args.end.hand) (sym c.requires.account.nodes_are) c.requires.end.inside
+
+pub returns-clause-account : goal.returns-clause-account
+returns-clause-account g c =
+    let account = c.requires.account in
     let k = c.keep_hand.ensures in
-    gathered_joined _ _ _ _ _ _ _ c.args.end.hand _ _ c.join.ensures.gains c.join-2.ensures.both.1 c.join-2.ensures.both.2 c.requires.gathered c.requires.end.closed k.kept k.popped k.taken k.fresh
+    record {
+      fit = record { labels = c.join.ensures.same_table ∙ account.fit.labels; pool = c.join-2.ensures.seat };
+      gathered = gathered_joined _ _ _ _ _ _ _ c.args.end.hand _ _ c.join.ensures.gains c.join-2.ensures.both.1 c.join-2.ensures.both.2 account.gathered c.requires.end.closed k.opens.kept k.popped k.taken k.fresh;
+      nodes_are = k.opens.nodes_are ∙ account.nodes_are;
+    }
 
 pub returns-clause-joins : goal.returns-clause-joins
 returns-clause-joins g c =
@@ -18,18 +34,10 @@ returns-clause-joins g c =
       pushed = ap length both.1 ∙ length-append _ _ ∙ ap (λ n. length c.args.gathering.now.seats.pool_seat.account.pushed + n) end.pushed_is;
       popped = ap length both.2 ∙ length-append _ _ ∙ ap (λ n. length c.args.gathering.now.seats.pool_seat.account.popped + n) end.popped_is;
       returned = omega (arith, c.from.ensures);
-      few = omega (arith, c.keep_hand.ensures.few, end.returned_is);
-      some = λ more. c.keep_hand.ensures.some (omega (arith, more, end.returned_is));
+      returned_few = omega (arith, end.returned_is, end.returned_few);
+      opens = subst (λ n. Opens n c.args.gathering.now.todo c.keep_hand.new.todo) (sym end.returned_is) c.keep_hand.ensures.opens;
+      results = record { counters = c.push_reserved.ensures.items; rngs = c.push_reserved-2.ensures.items; tracers = c.push_reserved-3.ensures.items };
+      room = record { counters = c.push_reserved.ensures.capacity; rngs = c.push_reserved-2.ensures.capacity; tracers = c.push_reserved-3.ensures.capacity };
       label_shares = omega (arith, ap (λ x. x.shares) gains, end.label_share);
       pool_shares = omega (arith, both.0, end.pool_share);
     }
-
-pub keep_hand-requires-clause-taken : goal.keep_hand-requires-clause-taken
-keep_hand-requires-clause-taken g c = λ entry inside.
-    let is = c.requires.end.inside.taken entry inside in
-    (is.from_one, omega (arith, is.to_last, c.requires.nodes))
-
-pub keep_hand-requires-clause-fresh : goal.keep_hand-requires-clause-fresh
-keep_hand-requires-clause-fresh g c = λ entry inside.
-    let is = c.requires.end.inside.fresh entry inside in
-    (is.from_one, omega (arith, is.to_last, c.requires.nodes))

@@ -1,7 +1,9 @@
-use Rattle.std.proofs.Common.{◌<◌, ℕ, length, get_or, ◌∙◌, subst, arith, below_more}
+use Rattle.std.proofs.Common.{◌<◌, ℕ, length, get_or, ap, refl, subst, arith, below_more}
 use Rattle.std.specs.Prelude.{Contains}
 use Rattle.ea_travel_times.proofs.Lists.{any_default}
 use Rattle.ea_pool.specs.declared.heap.entry.Entry.{Entry}
+use Rattle.ea_engine.specs.Openings.{Opens}
+use Rattle.ea_engine.proofs.OpeningLemmas.{Opens-none, Opens-added, Opens-then}
 use Rattle.ea_engine.proofs.run.gathering.keep_all.Goals as goal
 
 abbrev blank : Entry
@@ -14,8 +16,11 @@ add-requires c =
     let value = c.as_slice-entry-items.ensures.value in
     let lt : at < length items = rw value at c.loop-entry-test.true in
     let e = get_or items at blank in
-    let is = c.requires.nodes e (at, lt, any_default items at e blank lt) in
-    rw value (is.0, omega (arith, is.1, c.loop-entry.invariant.room))
+    let is = c.requires e (at, lt, any_default items at e blank lt) in
+    rw value (is.from_one, omega (arith, is.to_last, c.loop-entry.invariant.opens.nodes_are))
+
+pub loop-entry-init : goal.loop-entry-init
+loop-entry-init c = record { inside = λ i d lt. absurd (omega (arith, lt)); opens = Opens-none _ }
 
 pub loop-entry-preserved : goal.loop-entry-preserved
 loop-entry-preserved c =
@@ -31,15 +36,15 @@ loop-entry-preserved c =
           (λ j lower x. c.add.ensures.kept _ (inv.inside j x lower))
           (λ x. subst (λ (y : Entry). Contains c.add.new.self.waiting y.node) (any_default items at blank x lt) now)
           i less d;
-      kept = λ node waits. c.add.ensures.kept node (inv.kept node waits);
-      few = omega (arith, inv.few, c.add.ensures.at_most_one);
-      some = λ more. omega (arith, c.add.ensures.inside.1);
-      room = c.add.ensures.room.0 ∙ inv.room;
-      walks = c.add.ensures.room.1 ∙ inv.walks;
+      opens = Opens-then _ _ _ _ 1 _ inv.opens (Opens-added _ _ _ c.add.ensures.kept c.add.ensures.inside c.add.ensures.at_most_one c.add.ensures.room) refl;
     }
 
-pub returns-clause-inside : goal.returns-clause-inside
-returns-clause-inside c = λ entry inside.
+pub returns : goal.returns
+returns c =
     let items = c.args.entries.now.items in
-    let past = rw c.as_slice-entry-items.ensures.value at c.loop-entry-test.false in
-    subst (λ (y : Entry). Contains c.loop-entry.todo.waiting y.node) inside.2 (c.loop-entry.invariant.inside inside.0 entry (omega (arith, inside.1, past)))
+    let value = c.as_slice-entry-items.ensures.value in
+    let past = rw value at c.loop-entry-test.false in
+    record {
+      waits = λ entry inside. subst (λ (y : Entry). Contains c.loop-entry.todo.waiting y.node) inside.2 (c.loop-entry.invariant.inside inside.0 entry (omega (arith, inside.1, past)));
+      opens = subst (λ n. Opens n c.args.todo.now c.loop-entry.todo) (omega (arith, past, c.loop-entry.auto.entry-index-end, ap length value)) c.loop-entry.invariant.opens;
+    }

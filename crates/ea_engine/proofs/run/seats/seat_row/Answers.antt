@@ -6,7 +6,7 @@ use Rattle.ea_engine.proofs.run.seats.seat_row.Goals as goal
 
 pub loop-rng-init : goal.loop-rng-init
 loop-rng-init g c =
-    let none = ap length c.requires.none in
+    let none = ap length c.requires.may.row_empty.none in
     record {
       can_next = tt;
       is_finite = tt;
@@ -20,9 +20,9 @@ loop-rng-init g c =
       rs_len = sym none;
       ts_len = sym none;
       seated = λ k s r t d lt. absurd (omega (arith, none, lt));
-      seats_left = omega (arith, ap length c.into_iter-seats.ensures.rest, ap length c.into_iter-rng-iterator.ensures.into_iter_gives.0, c.args.seats.ok.0, c.args.rngs.ok.0, c.requires.seats);
-      tracers_left = omega (arith, ap length c.into_iter-tracers.ensures.rest, ap length c.into_iter-rng-iterator.ensures.into_iter_gives.0, c.args.tracers.ok.0, c.args.rngs.ok.0, c.requires.tracers);
-      room = omega (arith, none, ap length c.into_iter-rng-iterator.ensures.into_iter_gives.0, c.args.rngs.ok.0, c.requires.room);
+      seats_left = omega (arith, ap length c.into_iter-seats.ensures.rest, ap length c.into_iter-rng-iterator.ensures.into_iter_gives.0, c.args.seats.ok.0, c.args.rngs.ok.0, c.requires.may.seats_len);
+      tracers_left = omega (arith, ap length c.into_iter-tracers.ensures.rest, ap length c.into_iter-rng-iterator.ensures.into_iter_gives.0, c.args.tracers.ok.0, c.args.rngs.ok.0, c.requires.may.tracers_len);
+      room = omega (arith, none, ap length c.into_iter-rng-iterator.ensures.into_iter_gives.0, c.args.rngs.ok.0, c.requires.may.row_empty.room);
     }
 
 pub loop-rng-preserved : goal.loop-rng-preserved
@@ -53,8 +53,8 @@ loop-rng-preserved g c =
       room = omega (arith, inv.room, more, ap length c.in-Some.ensures.steps.0, c.push_reserved.ensures.capacity);
     }
 
-pub returns-clause-seated : goal.returns-clause-seated
-returns-clause-seated g c =
+pub returns : goal.returns
+returns g c =
     let inv = c.loop-rng.invariant in
     let row = c.loop-rng.row.items in
     let none = c.in-None.ensures.steps in
@@ -62,6 +62,9 @@ returns-clause-seated g c =
     let ss_is = all_taken c.args.seats.items inv.ss _ inv.seats_are (inv.seats_left ∙ ended) in
     let rs_is = all_taken c.args.rngs.items inv.rs _ inv.rngs_are ended in
     let ts_is = all_taken c.args.tracers.items inv.ts _ inv.tracers_are (inv.tracers_left ∙ ended) in
-    subst (λ ts. IsSeatedRow c.args.seats.items c.args.rngs.items ts row) ts_is
-    (subst (λ rs. IsSeatedRow c.args.seats.items rs inv.ts row) rs_is
-    (subst (λ ss. IsSeatedRow ss inv.rs inv.ts row) ss_is inv.seated))
+    record {
+      len = omega (arith, inv.rs_len, ap length rs_is, c.loop-rng.row.ok, c.args.rngs.ok);
+      seated = subst (λ ts. IsSeatedRow c.args.seats.items c.args.rngs.items ts row) ts_is
+          (subst (λ rs. IsSeatedRow c.args.seats.items rs inv.ts row) rs_is
+          (subst (λ ss. IsSeatedRow ss inv.rs inv.ts row) ss_is inv.seated));
+    }

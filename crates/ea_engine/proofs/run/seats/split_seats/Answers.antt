@@ -1,6 +1,8 @@
-use Rattle.std.proofs.Common.{◌+◌, length, sym, ◌∙◌, ap, arith, subst, All, length-append}
+use Rattle.std.proofs.Common.{◌≡◌, ◌+◌, length, refl, sym, ◌∙◌, ap, arith, subst, All, length-append}
 use Rattle.ea_engine.specs.Ends.{AreFresh}
+use Rattle.std.proofs.lemmas.List.Elements.{All-nil}
 use Rattle.ea_engine.specs.Seated.{tables}
+use Rattle.ea_engine.specs.Splits.{HasGiven}
 use Rattle.ea_engine.proofs.CounterLemmas.{index_push}
 use Rattle.ea_engine.proofs.run.seats.split_seats.Goals as goal
 
@@ -34,4 +36,39 @@ loop-preserved g c =
         label_share = ap (λ r. r.shares) c.split.ensures.new_seat;
         pool_share = new.0;
       }));
+    }
+
+pub loop-init : goal.loop-init
+loop-init g c = record {
+  fit = c.requires.seats.fit;
+  gave = record { bounds = refl; lowerings = refl; pushed = refl; popped = refl; label_shares = omega arith; pool_shares = omega arith };
+  len = ap length c.requires.others.none;
+  counted = omega arith;
+  capacity = refl;
+  room = c.requires.others.room;
+  fresh = rw c.requires.others.none (All-nil (AreFresh (tables c.args.labels.now c.args.pool.now)));
+}
+
+pub split-requires-clause-same_table : goal.split-requires-clause-same_table
+split-requires-clause-same_table g c κs outlives = c.loop.invariant.fit.labels
+
+pub split-requires-clause-shares : goal.split-requires-clause-shares
+split-requires-clause-shares g c κs outlives = omega (arith, c.loop.invariant.gave.label_shares, c.requires.seats.labels)
+
+pub split-requires-in-loop-clause-seat : goal.split-requires-in-loop-clause-seat
+split-requires-in-loop-clause-seat g c κs outlives = c.loop.invariant.fit.pool
+
+pub split-requires-in-loop-clause-share : goal.split-requires-in-loop-clause-share
+split-requires-in-loop-clause-share g c κs outlives = omega (arith, c.loop.invariant.gave.pool_shares, c.requires.seats.pool)
+
+pub returns : goal.returns
+returns g c =
+    let inv = c.loop.invariant in
+    let given : c.loop.counter ≡ c.args.count = omega (arith, inv.counted) in
+    record {
+      fit = inv.fit;
+      gave = subst (λ n. HasGiven n c.args.seats.now c.loop.seats) given inv.gave;
+      len = omega (arith, inv.len, given, c.loop.others.ok);
+      capacity = inv.capacity;
+      fresh = inv.fresh;
     }

@@ -1,37 +1,75 @@
-use Rattle.std.proofs.Common.{ap, arith}
+use Rattle.std.proofs.Common.{◌∙◌, ap, arith, refl, subst, sym}
+use Rattle.ea_road.specs.Roads.{IsNode}
 use Rattle.ea_labels.specs.Core.{bound}
 use Rattle.ea_engine.proofs.BoundLemmas.{IsReachedBy-noted}
 use Rattle.ea_engine.proofs.ProgressLemmas.{Contains-kept}
 use Rattle.ea_engine.proofs.AccountLemmas.{closed_noted}
+use Rattle.ea_engine.proofs.OpeningLemmas.{Opens-none}
 use Rattle.ea_engine.proofs.SeedLemmas.{sows_of}
 use Rattle.ea_engine.proofs.run.seeds.seed.Goals as goal
 
-pub returns-in-Kept-clause-gathered : goal.returns-in-Kept-clause-gathered
-returns-in-Kept-clause-gathered g c =
-    let h = c.requires.gathered in
-    record { back = h.back; refused = h.refused; closed = closed_noted _ _ _ _ c.args.source.node c.in-Kept.field-0 h.back h.refused c.in-Kept.ensures.kept.3 h.closed; waits = h.waits }
+pub offer-offered-requires-clause-same_table : goal.offer-offered-requires-clause-same_table
+offer-offered-requires-clause-same_table g c κs outlives = c.requires.account.fit.labels
 
-pub returns-in-Kept-clause-reached : goal.returns-in-Kept-clause-reached
-returns-in-Kept-clause-reached g c = IsReachedBy-noted _ _ c.args.source.node c.in-Kept.field-0 c.args.source.departure (ap (λ x. x.bounds) c.in-Kept.ensures.kept.3) c.in-Kept.ensures.kept.1
+pub offer-offered-requires-clause-node : goal.offer-offered-requires-clause-node
+offer-offered-requires-clause-node g c κs outlives = c.requires.source.node
 
-pub returns-in-Kept-clause-bounds : goal.returns-in-Kept-clause-bounds
-returns-in-Kept-clause-bounds g c = λ b inside. Contains-kept (bound c.args.source.node c.in-Kept.field-0) _ _ b (ap (λ x. x.bounds) c.in-Kept.ensures.kept.3) inside
+pub offer-offered-requires-clause-known : goal.offer-offered-requires-clause-known
+offer-offered-requires-clause-known g c κs outlives = c.requires.source.is_known
 
-pub returns-in-Lowered-clause-gathered : goal.returns-in-Lowered-clause-gathered
-returns-in-Lowered-clause-gathered g c =
+pub sow-requires-clause-seat : goal.sow-requires-clause-seat
+sow-requires-clause-seat g c κs outlives = c.requires.account.fit.pool
+
+pub sow-requires-clause-source : goal.sow-requires-clause-source
+sow-requires-clause-source g c κs outlives = record {
+  node = subst (λ n. IsNode n c.args.source.node) (sym c.requires.account.nodes_are) c.requires.source.node;
+  is_known = c.requires.source.is_known;
+}
+
+pub returns-in-Kept-clause-account : goal.returns-in-Kept-clause-account
+returns-in-Kept-clause-account g c =
+    let account = c.requires.account in
+    let h = account.gathered in
+    record {
+      fit = record { labels = c.offer-offered.ensures.same_table ∙ account.fit.labels; pool = account.fit.pool };
+      gathered = record { back = h.back; refused = h.refused; closed = closed_noted _ _ _ _ c.args.source.node c.in-Kept.field-0 h.back h.refused c.in-Kept.ensures.kept.3 h.closed; waits = h.waits };
+      nodes_are = account.nodes_are;
+    }
+
+pub returns-in-Kept-clause-offered : goal.returns-in-Kept-clause-offered
+returns-in-Kept-clause-offered g c =
+    let kept = c.in-Kept.ensures.kept in
+    record {
+      reached = IsReachedBy-noted _ _ c.args.source.node c.in-Kept.field-0 c.args.source.departure (ap (λ x. x.bounds) kept.3) kept.1;
+      bounds = λ b inside. Contains-kept (bound c.args.source.node c.in-Kept.field-0) _ _ b (ap (λ x. x.bounds) kept.3) inside;
+      offers = record {
+        same = ap (λ x. x.lowerings) kept.3;
+        alone = λ whole.
+            let low = c.in-Kept.ensures.alone whole in
+            (low.0, low.1, low.2, low.3, (low.4.0, omega (arith, low.4.1, kept.1)));
+      };
+      step = record { pushed_is = omega arith; popped_is = refl; label_shares = c.offer-offered.ensures.same_shares; pool_shares = refl };
+      opens = Opens-none _;
+    }
+
+pub returns-in-Lowered-clause-account : goal.returns-in-Lowered-clause-account
+returns-in-Lowered-clause-account g c =
+    let account = c.requires.account in
     let fell = c.in-Lowered.ensures.lowered in
-    c.sow.ensures.gathered _ _ (record { from = fell.0; after_is = fell.4 }) c.requires.gathered
+    record {
+      fit = record { labels = c.offer-offered.ensures.same_table ∙ account.fit.labels; pool = c.sow.ensures.seat };
+      gathered = c.sow.ensures.sown.gathered _ _ (record { from = fell.0; after_is = fell.4 }) account.gathered;
+      nodes_are = c.sow.ensures.sown.opens.nodes_are ∙ account.nodes_are;
+    }
 
-pub returns-in-Lowered-clause-reached : goal.returns-in-Lowered-clause-reached
-returns-in-Lowered-clause-reached g c = IsReachedBy-noted _ _ c.args.source.node c.args.source.departure c.args.source.departure (ap (λ x. x.bounds) c.in-Lowered.ensures.lowered.4) (omega arith)
-
-pub returns-in-Lowered-clause-bounds : goal.returns-in-Lowered-clause-bounds
-returns-in-Lowered-clause-bounds g c = λ b inside. Contains-kept (bound c.args.source.node c.args.source.departure) _ _ b (ap (λ x. x.bounds) c.in-Lowered.ensures.lowered.4) inside
-
-pub returns-in-Lowered-clause-offers : goal.returns-in-Lowered-clause-offers
-returns-in-Lowered-clause-offers g c = c.sow.ensures.offers _ _ (sows_of g.K.Known.is_known _ _ c.args.source c.in-Lowered.ensures.lowered)
-
-pub returns-in-Lowered-clause-step : goal.returns-in-Lowered-clause-step
-returns-in-Lowered-clause-step g c =
-    let sown = c.sow.ensures.step in
-    record { pushed_is = sown.pushed_is; popped_is = sown.popped_is; label_shares = c.offer-offered.ensures.same_shares; pool_shares = sown.shares_are }
+pub returns-in-Lowered-clause-offered : goal.returns-in-Lowered-clause-offered
+returns-in-Lowered-clause-offered g c =
+    let fell = c.in-Lowered.ensures.lowered in
+    let sown = c.sow.ensures.sown in
+    record {
+      reached = IsReachedBy-noted _ _ c.args.source.node c.args.source.departure c.args.source.departure (ap (λ x. x.bounds) fell.4) (omega arith);
+      bounds = λ b inside. Contains-kept (bound c.args.source.node c.args.source.departure) _ _ b (ap (λ x. x.bounds) fell.4) inside;
+      offers = sown.offers _ _ (sows_of g.K.Known.is_known _ _ c.args.source fell);
+      step = record { pushed_is = sown.step.pushed_is; popped_is = sown.step.popped_is; label_shares = c.offer-offered.ensures.same_shares; pool_shares = sown.step.shares_are };
+      opens = sown.opens;
+    }

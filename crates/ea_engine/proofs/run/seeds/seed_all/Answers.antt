@@ -10,6 +10,7 @@ use Rattle.ea_labels.specs.declared.record.SeatRecord.{SeatRecord}
 use Rattle.std.proofs.lemmas.List.{take_all}
 use Rattle.ea_engine.specs.Seeds.{AreSeeds}
 use Rattle.ea_engine.proofs.SeedLemmas.{IsSown, IsSown-start, IsSown-kept, IsSown-lowered}
+use Rattle.ea_engine.proofs.OpeningLemmas.{Opens-none, Opens-then}
 use Rattle.ea_engine.proofs.Settling.{pushed_then}
 use Rattle.ea_engine.proofs.run.seeds.seed_all.Goals as goal
 use Rattle.ea_engine.proofs.run.seeds.seed_all.Goals.{in-Kept, in-Pushed, in-HandedBack}
@@ -17,62 +18,50 @@ use Rattle.ea_engine.proofs.run.seeds.seed_all.Goals.{in-Kept, in-Pushed, in-Han
 among : (sources all : List Source) (k : ℕ) (d : Source) → sources ≡ all → k < length sources → IsAmong all (get_or sources k d)
 among sources all k d e lt = subst (λ xs. IsAmong xs (get_or sources k d)) e (k, (lt, any_default sources k d (get_or sources k d) lt))
 
-pub seed-requires-clause-node : goal.seed-requires-clause-node
-seed-requires-clause-node g c κs outlives =
-    let ground = c.requires.ground in
-    let start = ground.posed.sources_in _ (among c.sources-sources.result.now g.K.Posed.problem.query.sources c.loop-place.place (record { node = 0; departure = 0 }) (c.sources-sources.ensures.sources ∙ ap (λ q. q.sources) ground.named.query_is) (omega arith)) in
-    record { from_one = start.0.from_one; to_last = omega (arith, start.0.to_last, ground.places_are) }
+pub seed-requires-clause-account : goal.seed-requires-clause-account
+seed-requires-clause-account g c κs outlives = c.loop-place.invariant.account
 
-pub seed-requires-clause-known : goal.seed-requires-clause-known
-seed-requires-clause-known g c κs outlives =
+pub seed-requires-clause-source : goal.seed-requires-clause-source
+seed-requires-clause-source g c κs outlives =
     let ground = c.requires.ground in
     let problem = g.K.Posed.problem in
     let inside = among c.sources-sources.result.now problem.query.sources c.loop-place.place (record { node = 0; departure = 0 }) (c.sources-sources.ensures.sources ∙ ap (λ q. q.sources) ground.named.query_is) (omega arith) in
     let start = ground.posed.sources_in _ inside in
-    (ground.posed.names _ _).1 (reaches_source problem.network _ problem.query.sources _ inside start.1)
+    record {
+      node = record { from_one = start.0.from_one; to_last = omega (arith, start.0.to_last, ground.places_are) };
+      is_known = (ground.posed.names _ _).1 (reaches_source problem.network _ problem.query.sources _ inside start.1);
+    }
 
 pub loop-place-init : goal.loop-place-init
 loop-place-init g c = record {
-  fit = c.requires.fit;
-  room = refl;
-  walks = refl;
-  gathered = c.requires.gathered;
+  account = c.requires.account;
+  opens = Opens-none _;
   offered = λ k d lt. absurd (omega (arith, lt));
   step = search rules;
-  few = omega arith;
-  some = λ back. absurd (omega (arith, back));
   counted = λ new. IsSown-start _ _ (ap (λ (r : SeatRecord). r.lowerings) new);
   tried = omega arith;
 }
 
 pub loop-place-preserved : goal.loop-place-preserved
 loop-place-preserved g c = record {
-  fit = c.seed.ensures.fit;
-  room = c.seed.ensures.room ∙ c.loop-place.invariant.room;
-  walks = c.seed.ensures.walks ∙ c.loop-place.invariant.walks;
-  gathered = c.seed.ensures.gathered;
+  account = c.seed.ensures.account;
+  opens = elim c.match-seed.branch [
+    | in-Kept w ↦ Opens-then _ _ _ _ 0 _ c.loop-place.invariant.opens w.in-Kept.ensures.offered.opens (omega arith)
+    | in-Pushed w ↦ Opens-then _ _ _ _ 0 _ c.loop-place.invariant.opens w.in-Pushed.ensures.offered.opens (omega arith)
+    | in-HandedBack w ↦ Opens-then _ _ _ _ 1 _ c.loop-place.invariant.opens w.in-HandedBack.ensures.offered.opens (omega arith)
+  ];
   offered = λ k d lt.
       let sources = c.sources-sources.result.now in
       let bounds = c.seed.new.seats.label_seat.history.bounds in
       let P : ℕ → Type 0 = λ j. (e : Source) → IsReachedBy bounds (get_or sources j e).node (get_or sources j e).departure in
       below_more P c.loop-place.place
-      (λ j lower e. IsReachedBy-more c.loop-place.seats.label_seat.history.bounds bounds c.seed.ensures.bounds _ _ (c.loop-place.invariant.offered j e lower))
-      (λ e. subst (λ (s : Source). IsReachedBy bounds s.node s.departure) (any_default sources c.loop-place.place (record { node = 0; departure = 0 }) e (omega arith)) c.seed.ensures.reached)
+      (λ j lower e. IsReachedBy-more c.loop-place.seats.label_seat.history.bounds bounds c.seed.ensures.offered.bounds _ _ (c.loop-place.invariant.offered j e lower))
+      (λ e. subst (λ (s : Source). IsReachedBy bounds s.node s.departure) (any_default sources c.loop-place.place (record { node = 0; departure = 0 }) e (omega arith)) c.seed.ensures.offered.reached)
       k lt d;
   step = elim c.match-seed.branch [
-    | in-Kept w ↦ pushed_then _ _ _ _ 0 _ c.loop-place.invariant.step w.in-Kept.ensures.step (omega arith)
-    | in-Pushed w ↦ pushed_then _ _ _ _ 1 _ c.loop-place.invariant.step w.in-Pushed.ensures.step (omega arith)
-    | in-HandedBack w ↦ pushed_then _ _ _ _ 0 _ c.loop-place.invariant.step w.in-HandedBack.ensures.step (omega arith)
-  ];
-  few = elim c.match-seed.branch [
-    | in-Kept w ↦ omega (arith, w.in-Kept.ensures.few, c.loop-place.invariant.few)
-    | in-Pushed w ↦ omega (arith, w.in-Pushed.ensures.few, c.loop-place.invariant.few)
-    | in-HandedBack w ↦ omega (arith, w.in-HandedBack.ensures.few, c.loop-place.invariant.few)
-  ];
-  some = elim c.match-seed.branch [
-    | in-Kept w ↦ (λ back. c.seed.ensures.some (omega (arith, c.loop-place.invariant.some (omega (arith, back)))))
-    | in-Pushed w ↦ (λ back. c.seed.ensures.some (omega (arith, c.loop-place.invariant.some (omega (arith, back)))))
-    | in-HandedBack w ↦ (λ back. w.in-HandedBack.ensures.some (omega arith))
+    | in-Kept w ↦ pushed_then _ _ _ _ 0 _ c.loop-place.invariant.step w.in-Kept.ensures.offered.step (omega arith)
+    | in-Pushed w ↦ pushed_then _ _ _ _ 1 _ c.loop-place.invariant.step w.in-Pushed.ensures.offered.step (omega arith)
+    | in-HandedBack w ↦ pushed_then _ _ _ _ 0 _ c.loop-place.invariant.step w.in-HandedBack.ensures.offered.step (omega arith)
   ];
   counted = λ new.
       let sources = c.sources-sources.result.now in
@@ -82,9 +71,9 @@ loop-place-preserved g c = record {
       let whole : c.loop-place.seats.label_seat.history.shares ≡ SHARES = c.loop-place.invariant.step.label_shares ∙ ap (λ (r : SeatRecord). r.shares) new in
       let P : ℕ → Type 0 = λ n. IsSown sources (c.loop-place.place + 1) c.seed.new.seats.label_seat.history.lowerings n in
       elim c.match-seed.branch [
-        | in-Kept w ↦ subst P (omega arith) (IsSown-kept sources c.loop-place.place source here _ _ _ h w.in-Kept.ensures.offers whole)
-        | in-Pushed w ↦ subst P (omega arith) (IsSown-lowered sources c.loop-place.place source here _ _ _ h w.in-Pushed.ensures.offers c.loop-place.invariant.offered)
-        | in-HandedBack w ↦ subst P (omega arith) (IsSown-lowered sources c.loop-place.place source here _ _ _ h w.in-HandedBack.ensures.offers c.loop-place.invariant.offered)
+        | in-Kept w ↦ subst P (omega arith) (IsSown-kept sources c.loop-place.place source here _ _ _ h w.in-Kept.ensures.offered.offers whole)
+        | in-Pushed w ↦ subst P (omega arith) (IsSown-lowered sources c.loop-place.place source here _ _ _ h w.in-Pushed.ensures.offered.offers c.loop-place.invariant.offered)
+        | in-HandedBack w ↦ subst P (omega arith) (IsSown-lowered sources c.loop-place.place source here _ _ _ h w.in-HandedBack.ensures.offered.offers c.loop-place.invariant.offered)
       ];
   tried = elim c.match-seed.branch [
     | in-Kept w ↦ omega (arith, c.loop-place.invariant.tried)
@@ -93,14 +82,22 @@ loop-place-preserved g c = record {
   ];
 }
 
-pub returns-clause-offered : goal.returns-clause-offered
-returns-clause-offered g c = λ source inside.
-    let here = subst (λ xs. IsAmong xs source) (sym (c.sources-sources.ensures.sources ∙ ap (λ q. q.sources) c.requires.ground.named.query_is)) inside in
-    subst (λ (s : Source). IsReachedBy c.loop-place.seats.label_seat.history.bounds s.node s.departure) (sym here.1.1) (c.loop-place.invariant.offered here.0 source (omega (arith, here.1.0)))
+pub returns-clause-account : goal.returns-clause-account
+returns-clause-account g c = c.loop-place.invariant.account
 
-pub returns-clause-counted : goal.returns-clause-counted
-returns-clause-counted g c = λ new.
+pub returns-clause-offered : goal.returns-clause-offered
+returns-clause-offered g c =
     let sources = c.sources-sources.result.now in
-    let all : take c.loop-place.place sources ≡ sources = take_all c.loop-place.place sources (omega arith) in
-    subst (λ xs. AreSeeds xs (c.loop-place.seeded + c.loop-place.returned)) (all ∙ (c.sources-sources.ensures.sources ∙ ap (λ q. q.sources) c.requires.ground.named.query_is))
-    (c.loop-place.invariant.counted new).seeds
+    let inv = c.loop-place.invariant in
+    let are = c.sources-sources.ensures.sources ∙ ap (λ q. q.sources) c.requires.ground.named.query_is in
+    record {
+      offered = λ source inside.
+          let here = subst (λ xs. IsAmong xs source) (sym are) inside in
+          subst (λ (s : Source). IsReachedBy c.loop-place.seats.label_seat.history.bounds s.node s.departure) (sym here.1.1) (inv.offered here.0 source (omega (arith, here.1.0)));
+      step = inv.step;
+      opens = inv.opens;
+      small = omega (arith, inv.tried);
+      counted = λ new.
+          let all : take c.loop-place.place sources ≡ sources = take_all c.loop-place.place sources (omega arith) in
+          subst (λ xs. AreSeeds xs (c.loop-place.seeded + c.loop-place.returned)) (all ∙ are) (inv.counted new).seeds;
+    }

@@ -4,8 +4,25 @@ use Rattle.ea_engine.proofs.Settling.{gathered_same}
 use Rattle.ea_engine.proofs.BoundLemmas.{IsReachedBy-more}
 use Rattle.ea_engine.proofs.run.workers.seat_workers.Goals as goal
 
+pub split_seats-requires-clause-seats : goal.split_seats-requires-clause-seats
+split_seats-requires-clause-seats g c κs within = record {
+  fit = c.requires.fit;
+  labels = omega (arith, c.requires.shares.labels, c.requires.workers);
+  pool = omega (arith, c.requires.shares.pool, c.requires.workers);
+}
+
+pub split_seats-requires-clause-others : goal.split_seats-requires-clause-others
+split_seats-requires-clause-others g c κs within = record { none = c.requires.room.others_empty.none; room = omega (arith, c.requires.room.others_empty.room) }
+
 pub put_first-requires-clause-room : goal.put_first-requires-clause-room
-put_first-requires-clause-room g c κs within = omega (arith, c.split_seats.ensures.len, c.split_seats.ensures.capacity, c.requires.room)
+put_first-requires-clause-room g c κs within = omega (arith, c.split_seats.ensures.len, c.split_seats.ensures.capacity, c.requires.room.others_empty.room, c.requires.workers)
+
+pub seat_row-requires-clause-may : goal.seat_row-requires-clause-may
+seat_row-requires-clause-may g c κs within = record {
+  row_empty = c.requires.room.row_empty;
+  seats_len = omega (arith, ap length c.put_first.ensures.first, c.put_first.new.seats.ok, c.split_seats.ensures.len, c.split_seats.new.others.ok, c.requires.workers);
+  tracers_len = c.requires.workers.2;
+}
 
 pub returns-clause-seated : goal.returns-clause-seated
 returns-clause-seated g c = λ seeded waiting began.
@@ -24,6 +41,6 @@ returns-clause-seated g c = λ seeded waiting began.
         popped = gave.popped ∙ began.popped;
       };
       all_fresh = e.fresh;
-      label_shares = omega (arith, gave.label_shares, c.requires.label_shares, e.len);
-      pool_shares = omega (arith, gave.pool_shares, c.requires.pool_shares, e.len);
+      label_shares = omega (arith, gave.label_shares, c.requires.shares.labels, e.len);
+      pool_shares = omega (arith, gave.pool_shares, c.requires.shares.pool, e.len);
     }

@@ -10,17 +10,42 @@ use Rattle.ea_engine.proofs.run.workers.work_row.Given as given
 use Rattle.ea_engine.proofs.run.workers.work_row.Goals as goal
 use Rattle.ea_engine.proofs.run.workers.work_row.Goals.{After-seat_workers}
 
-pub seed_all-seeds-requires-clause-gathered : goal.seed_all-seeds-requires-clause-gathered
-seed_all-seeds-requires-clause-gathered g c κs within = gathered_start _ _ _ _ c.requires.seats.history c.requires.seats.account.1 c.requires.seats.account.2
+pub seed_all-seeds-requires-clause-account : goal.seed_all-seeds-requires-clause-account
+seed_all-seeds-requires-clause-account g c κs within =
+    let reserved = c.requires.reserved in
+    let seats = reserved.seats_new in
+    record {
+      fit = seats.fit;
+      gathered = gathered_start _ _ _ _ seats.history seats.account.1 seats.account.2;
+      nodes_are = reserved.todo_nodes;
+    }
+
+pub seat_workers-requires-clause-fit : goal.seat_workers-requires-clause-fit
+seat_workers-requires-clause-fit g c κs within = c.seed_all-seeds.ensures.account.fit
+
+pub seat_workers-requires-clause-shares : goal.seat_workers-requires-clause-shares
+seat_workers-requires-clause-shares g c κs within =
+    let seats = c.requires.reserved.seats_new in
+    let step = c.seed_all-seeds.ensures.offered.step in
+    record { labels = step.label_shares ∙ ap (λ r. r.shares) seats.history; pool = step.pool_shares ∙ seats.account.0 }
+
+pub seat_workers-requires-clause-room : goal.seat_workers-requires-clause-room
+seat_workers-requires-clause-room g c κs within =
+    let room = c.requires.reserved.room in
+    let rngs = c.requires.crew.rngs in
+    record {
+      others_empty = record { none = room.others_empty.none; room = omega (arith, room.others_empty.room, rngs) };
+      row_empty = record { none = room.row_empty.none; room = omega (arith, room.row_empty.room, rngs) };
+    }
 
 -- the workers are seated, the first with the seats of the seeding
 seated : (g : _) (c : After-seat_workers g) → AreSeated g.K.Posed.problem (tables_of c.args.ground.now) c.seed_all-seeds.result.seeded c.seed_all-seeds.new.todo.waiting c.args.crew.rngs.items c.args.crew.tracers.items c.seat_workers.new.row.items
 seated g c = c.seat_workers.ensures.seated _ _ (record {
-  fit = c.seed_all-seeds.ensures.fit;
-  gathered = c.seed_all-seeds.ensures.gathered;
-  offered = c.seed_all-seeds.ensures.offered;
-  pushed = omega (arith, c.seed_all-seeds.ensures.step.pushed_is, ap length c.requires.seats.account.1);
-  popped = c.seed_all-seeds.ensures.step.popped_is ∙ c.requires.seats.account.2;
+  fit = c.seed_all-seeds.ensures.account.fit;
+  gathered = c.seed_all-seeds.ensures.account.gathered;
+  offered = c.seed_all-seeds.ensures.offered.offered;
+  pushed = omega (arith, c.seed_all-seeds.ensures.offered.step.pushed_is, ap length c.requires.reserved.seats_new.account.1);
+  popped = c.seed_all-seeds.ensures.offered.step.popped_is ∙ c.requires.reserved.seats_new.account.2;
 })
 
 pub run_workers-requires-clause-ready : goal.run_workers-requires-clause-ready
@@ -47,8 +72,19 @@ returns-clause-worked g c =
       rngs_len = omega (arith, c.seat_workers.ensures.len, c.args.crew.rngs.ok, began.ok);
     }
 
-pub returns-clause-few : goal.returns-clause-few
-returns-clause-few g c = omega (arith, c.seed_all-seeds.ensures.few, ap length c.requires.waiting)
-
-pub returns-clause-seeds : goal.returns-clause-seeds
-returns-clause-seeds g c = c.seed_all-seeds.ensures.counted c.requires.seats.history
+pub returns-clause-seeding : goal.returns-clause-seeding
+returns-clause-seeding g c =
+    let opens = c.seed_all-seeds.ensures.offered.opens in
+    let offered = c.seed_all-seeds.ensures.offered in
+    let none = ap length c.requires.reserved.todo_waiting in
+    record {
+      small = offered.small;
+      counted = offered.counted c.requires.reserved.seats_new.history;
+      todo = record {
+        nodes_are = opens.nodes_are;
+        back_few = omega (arith, offered.small);
+        few = omega (arith, opens.few, none);
+        some = λ some. opens.some (omega (arith, some, none));
+      };
+      walks_are = opens.walks_are;
+    }

@@ -1,9 +1,5 @@
-use Rattle.std.proofs.Common.{◌≡◌}
-use Rattle.ea_engine.specs.Worked.{OnlySaw}
+use Rattle.ea_engine.specs.Equipped.{OnlyRead}
 use Rattle.ea_engine.proofs.worker.prefetch.read_places.Given as goal
 
 abbrev pub invariant-loop-entry : goal.invariant-loop-entry
-invariant-loop-entry g l = record {
-  table : l.seat.table ≡ l.fn.seat.table;
-  saw : OnlySaw l.fn.seat.history l.seat.history;
-}
+invariant-loop-entry g l = OnlyRead l.fn.seat l.seat

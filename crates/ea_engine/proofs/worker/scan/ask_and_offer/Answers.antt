@@ -1,4 +1,5 @@
-use Rattle.std.proofs.Common.{ℕ, ◌≤◌, [], refl, ◌∙◌, ap, arith}
+use Rattle.std.proofs.Common.{ℕ, ◌≤◌, [], ◌∷◌, refl, ◌∙◌, ap, arith, length, length-append}
+use Rattle.std.proofs.lemmas.Bool.Decides.{nat_tests}
 use Rattle.ea_base.specs.declared.limits.TheConstants.{HORIZON}
 use Rattle.ea_travel_times.specs.Answers.{IsQuestion}
 use Rattle.ea_road.proofs.Arcs.{is_question}
@@ -11,20 +12,20 @@ use Rattle.ea_engine.proofs.worker.scan.ask_and_offer.Goals.{After-arrive-arriva
 
 question : (g : _) (c : After-arrive-arrival g) → IsQuestion (g.T.TravelTimes.classes c.args.ground.now.times.now) c.args.arc.class c.args.arc.weight c.args.entry.key
 question g c =
-    let ground = c.requires.ground in
-    let within = g.K.Known.within c.args.entry.node c.args.entry.key c.requires.entry in
-    is_question g.K.Posed.problem.network (g.T.TravelTimes.classes c.args.ground.now.times.now) c.requires.arc.0 c.args.entry.key c.args.arc ground.posed.network ground.classed c.requires.arc.1 within
+    let ground = c.requires.means.is_ground in
+    let within = g.K.Known.within c.args.entry.node c.args.entry.key c.requires.arc.is_known in
+    is_question g.K.Posed.problem.network (g.T.TravelTimes.classes c.args.ground.now.times.now) c.requires.arc.number c.args.entry.key c.args.arc ground.posed.network ground.classed c.requires.arc.is_arc within
 
 pub arrive-arrival-requires : goal.arrive-arrival-requires
 arrive-arrival-requires g c =
-    let ground = c.requires.ground in
-    let within = g.K.Known.within c.args.entry.node c.args.entry.key c.requires.entry in
-    rw c.from.ensures (is_question g.K.Posed.problem.network (g.T.TravelTimes.classes c.args.ground.now.times.now) c.requires.arc.0 c.args.entry.key c.args.arc ground.posed.network ground.classed c.requires.arc.1 within)
+    let ground = c.requires.means.is_ground in
+    let within = g.K.Known.within c.args.entry.node c.args.entry.key c.requires.arc.is_known in
+    rw c.from.ensures (is_question g.K.Posed.problem.network (g.T.TravelTimes.classes c.args.ground.now.times.now) c.requires.arc.number c.args.entry.key c.args.arc ground.posed.network ground.classed c.requires.arc.is_arc within)
 
 -- no answer of the problem at this departure is earlier than the one returned
 least : (g : _) (c : After-arrive-arrival g) (arrival : ℕ) → g.K.Posed.problem.answers c.args.arc.class c.args.arc.weight c.args.entry.key arrival → c.arrive-arrival.result ≤ arrival
 least g c arrival answer =
-    let ground = c.requires.ground in
+    let ground = c.requires.means.is_ground in
     let is = question g c in
     let mine = rw c.from.ensures at c.arrive-arrival.ensures in
     ground.fifo.in_order c.args.arc.class c.args.arc.weight c.args.entry.key c.args.entry.key c.arrive-arrival.result arrival is is mine ((ground.named.answers_are _ _ _ _).1 answer) (omega arith)
@@ -32,117 +33,108 @@ least g c arrival answer =
 -- the arrival is that of a walk
 reached : (g : _) (c : After-arrive-arrival g) → c.arrive-arrival.result ≤ HORIZON → g.K.Known.is_known c.args.arc.head c.arrive-arrival.result
 reached g c within =
-    let ground = c.requires.ground in
+    let ground = c.requires.means.is_ground in
     let problem = g.K.Posed.problem in
-    let is_arc = c.requires.arc.1 in
-    let before = (ground.posed.names c.args.entry.node c.args.entry.key).0 c.requires.entry in
+    let is_arc = c.requires.arc.is_arc in
+    let before = (ground.posed.names c.args.entry.node c.args.entry.key).0 c.requires.arc.is_known in
     let answer = (ground.named.answers_are _ _ _ _).0 (rw c.from.ensures at c.arrive-arrival.ensures) in
-    (ground.posed.names c.args.arc.head c.arrive-arrival.result).1 (reaches_more problem.network _ problem.query.sources c.args.entry.node c.args.entry.key c.requires.arc.0 c.args.arc.head c.arrive-arrival.result c.args.arc before is_arc c.requires.tail refl answer within)
+    (ground.posed.names c.args.arc.head c.arrive-arrival.result).1 (reaches_more problem.network _ problem.query.sources c.args.entry.node c.args.entry.key c.requires.arc.number c.args.arc.head c.arrive-arrival.result c.args.arc before is_arc c.requires.arc.tail_is refl answer within)
 
 pub offer-requires-clause-known : goal.offer-requires-clause-known
 offer-requires-clause-known g c κs outlives = reached g (goal.at.offer-requires-clause-known g c).After-arrive-arrival (omega (arith, c.if-arrival-gt-HORIZON.false))
 
-pub returns-then-arrival-gt-HORIZON-clause-spent : goal.returns-then-arrival-gt-HORIZON-clause-spent
-returns-then-arrival-gt-HORIZON-clause-spent g c =
-    let d = (goal.at.returns-then-arrival-gt-HORIZON-clause-spent g c).After-arrive-arrival in
-    λ arrival answer within. absurd (omega (arith, least g d arrival answer, c.if-arrival-gt-HORIZON.true))
+pub offer-requires-clause-same_table : goal.offer-requires-clause-same_table
+offer-requires-clause-same_table g c κs outlives = c.requires.means.are_means.seats.labels
 
-pub returns-in-Kept-clause-progress : goal.returns-in-Kept-clause-progress
-returns-in-Kept-clause-progress g c = Progress-noted _ _ _ _ _ _ c.args.arc.head c.in-Kept.field-0 c.in-Kept.ensures.kept.3
+pub returns-then-arrival-gt-HORIZON-clause-means : goal.returns-then-arrival-gt-HORIZON-clause-means
+returns-then-arrival-gt-HORIZON-clause-means g c = c.requires.means.are_means
 
-pub returns-in-Kept-clause-spent : goal.returns-in-Kept-clause-spent
-returns-in-Kept-clause-spent g c =
-    let d = (goal.at.returns-in-Kept-clause-spent g c).After-arrive-arrival in
+pub returns-then-arrival-gt-HORIZON-clause-relaxed : goal.returns-then-arrival-gt-HORIZON-clause-relaxed
+returns-then-arrival-gt-HORIZON-clause-relaxed g c =
+    let d = (goal.at.returns-then-arrival-gt-HORIZON-clause-relaxed g c).After-arrive-arrival in
+    record {
+      progress = Progress-none _;
+      left = c.requires.means.room;
+      one_push_each = λ is. refl;
+      spent = λ arrival answer within. absurd (omega (arith, least g d arrival answer, c.if-arrival-gt-HORIZON.true));
+    }
+
+pub returns-in-Kept-clause-means : goal.returns-in-Kept-clause-means
+returns-in-Kept-clause-means g c =
+    let means = c.requires.means.are_means in
+    record { seats = record { labels = c.offer.ensures.same_table ∙ means.seats.labels; pool = means.seats.pool }; fresh_known = means.fresh_known }
+
+pub returns-in-Kept-clause-relaxed : goal.returns-in-Kept-clause-relaxed
+returns-in-Kept-clause-relaxed g c =
+    let d = (goal.at.returns-in-Kept-clause-relaxed g c).After-arrive-arrival in
     let kept = c.in-Kept.ensures.kept in
-    λ arrival answer within. IsReachedBy-noted _ _ c.args.arc.head c.in-Kept.field-0 arrival (ap (λ x. x.bounds) kept.3) (omega (arith, kept.1, least g d arrival answer))
+    record {
+      progress = Progress-noted _ _ _ _ _ _ c.args.arc.head c.in-Kept.field-0 kept.3;
+      left = c.requires.means.room;
+      one_push_each = λ is. refl;
+      spent = λ arrival answer within. IsReachedBy-noted _ _ c.args.arc.head c.in-Kept.field-0 arrival (ap (λ x. x.bounds) kept.3) (omega (arith, kept.1, least g d arrival answer));
+    }
 
-pub returns-then-arrival-gt-HORIZON-clause-progress : goal.returns-then-arrival-gt-HORIZON-clause-progress
-returns-then-arrival-gt-HORIZON-clause-progress g c = Progress-none _
+pub returns-then-len-batch-clause-means : goal.returns-then-len-batch-clause-means
+returns-then-len-batch-clause-means g c =
+    let d = (goal.at.returns-then-len-batch-clause-means g c).After-arrive-arrival in
+    let means = c.requires.means.are_means in
+    record {
+      seats = record { labels = c.offer.ensures.same_table ∙ means.seats.labels; pool = means.seats.pool };
+      fresh_known = known_more g.K.Known.is_known c.args.fresh.now.items _ _ c.push.ensures.items means.fresh_known (reached g d (omega (arith, c.if-arrival-gt-HORIZON.false)));
+    }
 
-pub returns-then-len-batch-clause-fresh : goal.returns-then-len-batch-clause-fresh
-returns-then-len-batch-clause-fresh g c =
-    let d = (goal.at.returns-then-len-batch-clause-fresh g c).After-arrive-arrival in
-    known_more g.K.Known.is_known c.args.fresh.now.items _ _ c.push.ensures.items c.requires.fresh (reached g d (omega (arith, c.if-arrival-gt-HORIZON.false)))
-
-pub returns-then-len-batch-clause-progress : goal.returns-then-len-batch-clause-progress
-returns-then-len-batch-clause-progress g c =
+pub returns-then-len-batch-clause-relaxed : goal.returns-then-len-batch-clause-relaxed
+returns-then-len-batch-clause-relaxed g c =
+    let d = (goal.at.returns-then-len-batch-clause-relaxed g c).After-arrive-arrival in
     let low = c.in-Lowered.ensures.lowered in
-    Progress-lowered _ _ _ _ [] _ _ c.args.arc.head low.0 c.arrive-arrival.result low.4 c.push.ensures.items
+    record {
+      progress = Progress-lowered _ _ _ _ [] _ _ c.args.arc.head low.0 c.arrive-arrival.result low.4 c.push.ensures.items;
+      left = grind (arith, nat_tests);
+      one_push_each = λ is. absurd (grind (arith, nat_tests));
+      spent = λ arrival answer within. IsReachedBy-noted _ _ c.args.arc.head c.arrive-arrival.result arrival (ap (λ x. x.bounds) low.4) (least g d arrival answer);
+    }
 
-pub returns-then-len-batch-clause-spent : goal.returns-then-len-batch-clause-spent
-returns-then-len-batch-clause-spent g c =
-    let d = (goal.at.returns-then-len-batch-clause-spent g c).After-arrive-arrival in
-    let low = c.in-Lowered.ensures.lowered in
-    λ arrival answer within. IsReachedBy-noted _ _ c.args.arc.head c.arrive-arrival.result arrival (ap (λ x. x.bounds) low.4) (least g d arrival answer)
+pub push_fresh-requires-clause-pool_seat : goal.push_fresh-requires-clause-pool_seat
+push_fresh-requires-clause-pool_seat g c κs outlives = c.requires.means.are_means.seats.pool
 
 pub push_fresh-requires-clause-known : goal.push_fresh-requires-clause-known
 push_fresh-requires-clause-known g c κs outlives =
     let d = (goal.at.push_fresh-requires-clause-known g c).After-arrive-arrival in
-    known_more g.K.Known.is_known c.args.fresh.now.items _ _ c.push.ensures.items c.requires.fresh (reached g d (omega (arith, c.if-arrival-gt-HORIZON.false)))
+    known_more g.K.Known.is_known c.args.fresh.now.items _ _ c.push.ensures.items c.requires.means.are_means.fresh_known (reached g d (omega (arith, c.if-arrival-gt-HORIZON.false)))
 
-pub returns-then-push_fresh-clause-progress : goal.returns-then-push_fresh-clause-progress
-returns-then-push_fresh-clause-progress g c =
+pub returns-then-push_fresh-clause-means : goal.returns-then-push_fresh-clause-means
+returns-then-push_fresh-clause-means g c = record {
+  seats = record { labels = c.offer.ensures.same_table ∙ c.requires.means.are_means.seats.labels; pool = c.push_fresh.ensures.pool_seat };
+  fresh_known = c.push_fresh.ensures.fresh.left_known;
+}
+
+pub returns-then-push_fresh-clause-relaxed : goal.returns-then-push_fresh-clause-relaxed
+returns-then-push_fresh-clause-relaxed g c =
+    let d = (goal.at.returns-then-push_fresh-clause-relaxed g c).After-arrive-arrival in
     let low = c.in-Lowered.ensures.lowered in
-    Progress-then _ _ _ [] [] [] 0 1 _ 1 0 _ (Progress-lowered _ _ _ _ [] _ _ c.args.arc.head low.0 c.arrive-arrival.result low.4 c.push.ensures.items) (c.push_fresh.ensures.progress _) refl refl refl
+    let none = c.push_fresh.ensures.fresh.none c.if-push_fresh.true in
+    record {
+      progress = Progress-then _ _ _ [] [] [] 0 1 _ 1 0 _ (Progress-lowered _ _ _ _ [] _ _ c.args.arc.head low.0 c.arrive-arrival.result low.4 c.push.ensures.items) (c.push_fresh.ensures.fresh.progress _) refl refl refl;
+      left = omega (arith, ap length none, c.requires.means.room);
+      one_push_each = λ is. refl;
+      spent = λ arrival answer within. IsReachedBy-noted _ _ c.args.arc.head c.arrive-arrival.result arrival (ap (λ x. x.bounds) low.4) (least g d arrival answer);
+    }
 
-pub returns-then-push_fresh-clause-spent : goal.returns-then-push_fresh-clause-spent
-returns-then-push_fresh-clause-spent g c =
-    let d = (goal.at.returns-then-push_fresh-clause-spent g c).After-arrive-arrival in
+pub returns-else-push_fresh-clause-means : goal.returns-else-push_fresh-clause-means
+returns-else-push_fresh-clause-means g c = record {
+  seats = record { labels = c.offer.ensures.same_table ∙ c.requires.means.are_means.seats.labels; pool = c.push_fresh.ensures.pool_seat };
+  fresh_known = c.push_fresh.ensures.fresh.left_known;
+}
+
+pub returns-else-push_fresh-clause-relaxed : goal.returns-else-push_fresh-clause-relaxed
+returns-else-push_fresh-clause-relaxed g c =
+    let d = (goal.at.returns-else-push_fresh-clause-relaxed g c).After-arrive-arrival in
     let low = c.in-Lowered.ensures.lowered in
-    λ arrival answer within. IsReachedBy-noted _ _ c.args.arc.head c.arrive-arrival.result arrival (ap (λ x. x.bounds) low.4) (least g d arrival answer)
-
-pub returns-else-push_fresh-clause-progress : goal.returns-else-push_fresh-clause-progress
-returns-else-push_fresh-clause-progress g c =
-    let low = c.in-Lowered.ensures.lowered in
-    Progress-then _ _ _ [] [] [] 0 1 _ 1 0 _ (Progress-lowered _ _ _ _ [] _ _ c.args.arc.head low.0 c.arrive-arrival.result low.4 c.push.ensures.items) (c.push_fresh.ensures.progress _) refl refl refl
-
-pub returns-else-push_fresh-clause-spent : goal.returns-else-push_fresh-clause-spent
-returns-else-push_fresh-clause-spent g c =
-    let d = (goal.at.returns-else-push_fresh-clause-spent g c).After-arrive-arrival in
-    let low = c.in-Lowered.ensures.lowered in
-    λ arrival answer within. IsReachedBy-noted _ _ c.args.arc.head c.arrive-arrival.result arrival (ap (λ x. x.bounds) low.4) (least g d arrival answer)
-
-pub returns-then-arrival-gt-HORIZON-clause-seats : goal.returns-then-arrival-gt-HORIZON-clause-seats
-returns-then-arrival-gt-HORIZON-clause-seats g c = c.requires.seats
-
-pub returns-then-arrival-gt-HORIZON-clause-fresh : goal.returns-then-arrival-gt-HORIZON-clause-fresh
-returns-then-arrival-gt-HORIZON-clause-fresh g c = c.requires.fresh
-
-pub returns-then-arrival-gt-HORIZON-clause-left : goal.returns-then-arrival-gt-HORIZON-clause-left
-returns-then-arrival-gt-HORIZON-clause-left g c = c.requires.room.0
-
-pub returns-then-arrival-gt-HORIZON-clause-one : goal.returns-then-arrival-gt-HORIZON-clause-one
-returns-then-arrival-gt-HORIZON-clause-one g c = λ is. refl
-
-pub returns-in-Kept-clause-seats : goal.returns-in-Kept-clause-seats
-returns-in-Kept-clause-seats g c = record { labels = c.offer.ensures.same_table ∙ c.requires.seats.labels; pool = c.requires.seats.pool }
-
-pub returns-in-Kept-clause-fresh : goal.returns-in-Kept-clause-fresh
-returns-in-Kept-clause-fresh g c = c.requires.fresh
-
-pub returns-in-Kept-clause-left : goal.returns-in-Kept-clause-left
-returns-in-Kept-clause-left g c = c.requires.room.0
-
-pub returns-in-Kept-clause-one : goal.returns-in-Kept-clause-one
-returns-in-Kept-clause-one g c = λ is. refl
-
-pub returns-then-len-batch-clause-seats : goal.returns-then-len-batch-clause-seats
-returns-then-len-batch-clause-seats g c = record { labels = c.offer.ensures.same_table ∙ c.requires.seats.labels; pool = c.requires.seats.pool }
-
-pub returns-then-push_fresh-clause-seats : goal.returns-then-push_fresh-clause-seats
-returns-then-push_fresh-clause-seats g c = record { labels = c.offer.ensures.same_table ∙ c.requires.seats.labels; pool = c.push_fresh.ensures.pool_seat }
-
-pub returns-then-push_fresh-clause-fresh : goal.returns-then-push_fresh-clause-fresh
-returns-then-push_fresh-clause-fresh g c = c.push_fresh.ensures.known
-
-pub returns-then-push_fresh-clause-one : goal.returns-then-push_fresh-clause-one
-returns-then-push_fresh-clause-one g c = λ is. refl
-
-pub returns-else-push_fresh-clause-seats : goal.returns-else-push_fresh-clause-seats
-returns-else-push_fresh-clause-seats g c = record { labels = c.offer.ensures.same_table ∙ c.requires.seats.labels; pool = c.push_fresh.ensures.pool_seat }
-
-pub returns-else-push_fresh-clause-fresh : goal.returns-else-push_fresh-clause-fresh
-returns-else-push_fresh-clause-fresh g c = c.push_fresh.ensures.known
-
-pub returns-else-push_fresh-clause-one : goal.returns-else-push_fresh-clause-one
-returns-else-push_fresh-clause-one g c = λ is. refl
+    let left = c.push_fresh.ensures.fresh in
+    record {
+      progress = Progress-then _ _ _ [] [] [] 0 1 _ 1 0 _ (Progress-lowered _ _ _ _ [] _ _ c.args.arc.head low.0 c.arrive-arrival.result low.4 c.push.ensures.items) (c.push_fresh.ensures.fresh.progress _) refl refl refl;
+      left = (left.some c.if-push_fresh.false, omega (arith, left.few, ap length c.push.ensures.items, length-append c.args.fresh.now.items (record { key = c.arrive-arrival.result; node = c.args.arc.head } ∷ []), c.requires.means.room));
+      one_push_each = λ is. refl;
+      spent = λ arrival answer within. IsReachedBy-noted _ _ c.args.arc.head c.arrive-arrival.result arrival (ap (λ x. x.bounds) low.4) (least g d arrival answer);
+    }

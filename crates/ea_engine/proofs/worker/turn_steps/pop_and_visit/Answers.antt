@@ -4,47 +4,95 @@ use Rattle.ea_engine.proofs.HoldLemmas.{known_nothing, known_turned}
 use Rattle.ea_engine.proofs.TurnLemmas.{IsTurn-idle, IsTurn-popped, SawAs-visited, took_some}
 use Rattle.ea_engine.proofs.worker.turn_steps.pop_and_visit.Goals as goal
 
-pub returns-in-Empty-clause-taken : goal.returns-in-Empty-clause-taken
-returns-in-Empty-clause-taken g c = known_nothing g.K.Known.is_known _ c.in-Empty.ensures.popped.1
+pub pop_drawn-requires-clause-pool_seat : goal.pop_drawn-requires-clause-pool_seat
+pop_drawn-requires-clause-pool_seat g c κs outlives = c.requires.means.are_held.seats.pool
 
-pub returns-in-Busy-clause-taken : goal.returns-in-Busy-clause-taken
-returns-in-Busy-clause-taken g c = known_nothing g.K.Known.is_known _ c.in-Busy.ensures.popped.1
+pub pop_drawn-requires-clause-taken : goal.pop_drawn-requires-clause-taken
+pop_drawn-requires-clause-taken g c κs outlives = record {
+  none = c.requires.taken;
+  some = omega (arith, c.requires.means.room);
+  few = c.requires.means.batch_few;
+}
+
+pub returns-in-Empty-clause-means : goal.returns-in-Empty-clause-means
+returns-in-Empty-clause-means g c =
+    let held = c.requires.means.are_held in
+    record {
+      seats = record { labels = held.seats.labels; pool = c.in-Empty.ensures.pool_seat };
+      taken_known = known_nothing g.K.Known.is_known _ c.in-Empty.ensures.drawn.popped.1;
+      fresh_known = held.fresh_known;
+    }
+
+pub returns-in-Busy-clause-means : goal.returns-in-Busy-clause-means
+returns-in-Busy-clause-means g c =
+    let held = c.requires.means.are_held in
+    record {
+      seats = record { labels = held.seats.labels; pool = c.in-Busy.ensures.pool_seat };
+      taken_known = known_nothing g.K.Known.is_known _ c.in-Busy.ensures.drawn.popped.1;
+      fresh_known = held.fresh_known;
+    }
 
 pub returns-in-Empty-clause-turn : goal.returns-in-Empty-clause-turn
 returns-in-Empty-clause-turn g c =
     let t = c.idle_turn.ensures in
+    let drawn = c.in-Empty.ensures.drawn in
     IsTurn-idle _ _ _ _ _ _ _ _ _ _ _ _ _
-    c.in-Empty.ensures.popped.0 c.requires.taken c.in-Empty.ensures.popped.1 c.requires.room.0 c.in-Empty.ensures.words
-    t.number (ap is_idle t.kind) t.shaped t.lowered t.broken t.pops t.pushes
-    (λ whole. rw t.kind (c.in-Empty.ensures.nothing whole))
+    drawn.popped.0 c.requires.taken drawn.popped.1 c.requires.means.room drawn.words_are
+    t.number_is (ap is_idle t.kind_is) t.shaped t.lowered t.broken t.pops t.pushes
+    (λ whole. rw t.kind_is (drawn.nothing whole))
 
 pub returns-in-Busy-clause-turn : goal.returns-in-Busy-clause-turn
 returns-in-Busy-clause-turn g c =
     let t = c.idle_turn-in-Busy.ensures in
+    let drawn = c.in-Busy.ensures.drawn in
     IsTurn-idle _ _ _ _ _ _ _ _ _ _ _ _ _
-    c.in-Busy.ensures.popped.0 c.requires.taken c.in-Busy.ensures.popped.1 c.requires.room.0 c.in-Busy.ensures.words
-    t.number (ap is_idle t.kind) t.shaped t.lowered t.broken t.pops t.pushes
-    (λ whole. rw t.kind (c.in-Busy.ensures.alone whole))
+    drawn.popped.0 c.requires.taken drawn.popped.1 c.requires.means.room drawn.words_are
+    t.number_is (ap is_idle t.kind_is) t.shaped t.lowered t.broken t.pops t.pushes
+    (λ whole. rw t.kind_is (drawn.alone whole))
+
+pub returns-in-Empty-clause-pushes : goal.returns-in-Empty-clause-pushes
+returns-in-Empty-clause-pushes g c = omega (arith, c.idle_turn.ensures.pushes)
+
+pub returns-in-Busy-clause-pushes : goal.returns-in-Busy-clause-pushes
+returns-in-Busy-clause-pushes g c = omega (arith, c.idle_turn-in-Busy.ensures.pushes)
+
+pub visit_first-end-requires-clause-means : goal.visit_first-end-requires-clause-means
+visit_first-end-requires-clause-means g c κs outlives =
+    let may = c.requires.means in
+    let t = c.in-Entries.ensures.drawn.popped in
+    record {
+      is_ground = may.is_ground;
+      target_is = may.target_is;
+      are_held = record {
+        seats = record { labels = may.are_held.seats.labels; pool = c.in-Entries.ensures.pool_seat };
+        taken_known = known_turned g.K.Known.is_known _ t.out t.turned t.known_all;
+        fresh_known = may.are_held.fresh_known;
+      };
+      room = may.room;
+      batch_few = may.batch_few;
+    }
 
 pub visit_first-end-requires-clause-taken : goal.visit_first-end-requires-clause-taken
-visit_first-end-requires-clause-taken g c κs outlives =
-    let t = c.in-Entries.ensures.popped in
-    (took_some g.K.Known.is_known _ _ _ _ _ _ t, known_turned g.K.Known.is_known _ t.out t.turned t.known_all)
+visit_first-end-requires-clause-taken g c κs outlives = took_some g.K.Known.is_known _ _ _ _ _ _ c.in-Entries.ensures.drawn.popped
+
+pub returns-in-Entries-clause-means : goal.returns-in-Entries-clause-means
+returns-in-Entries-clause-means g c = c.visit_first-end.ensures.means
 
 pub returns-in-Entries-clause-turn : goal.returns-in-Entries-clause-turn
 returns-in-Entries-clause-turn g c =
+    let drawn = c.in-Entries.ensures.drawn in
     IsTurn-popped _ _ _ g.K.Known.is_known _ _ _ _ _ _ _ _ _ _ _
-    c.requires.taken c.in-Entries.ensures.popped c.in-Entries.ensures.words
+    c.requires.taken drawn.popped drawn.words_are
     (λ node time known. omega (arith, g.K.Known.within node time known)) c.visit_first-end.ensures.visit
 
 pub returns-in-Entries-clause-pushes : goal.returns-in-Entries-clause-pushes
-returns-in-Entries-clause-pushes g c = c.visit_first-end.ensures.visit.pushes
+returns-in-Entries-clause-pushes g c = c.visit_first-end.ensures.visit.visit.pushes
 
 pub returns-in-Empty-clause-saw : goal.returns-in-Empty-clause-saw
-returns-in-Empty-clause-saw g c = rw c.idle_turn.ensures.kind c.in-Empty.ensures.looked
+returns-in-Empty-clause-saw g c = rw c.idle_turn.ensures.kind_is c.in-Empty.ensures.drawn.looked
 
 pub returns-in-Busy-clause-saw : goal.returns-in-Busy-clause-saw
-returns-in-Busy-clause-saw g c = rw c.idle_turn-in-Busy.ensures.kind c.in-Busy.ensures.looked
+returns-in-Busy-clause-saw g c = rw c.idle_turn-in-Busy.ensures.kind_is c.in-Busy.ensures.drawn.looked
 
 pub returns-in-Entries-clause-saw : goal.returns-in-Entries-clause-saw
-returns-in-Entries-clause-saw g c = SawAs-visited c.visit_first-end.result.turn.kind _ _ _ _ _ _ _ c.visit_first-end.ensures.visit.visited
+returns-in-Entries-clause-saw g c = SawAs-visited c.visit_first-end.result.turn.kind _ _ _ _ _ _ _ c.visit_first-end.ensures.visit.visit.visited

@@ -1,4 +1,4 @@
-use Rattle.std.proofs.Common.{◌≡◌, List, length, refl, ap, ◌∙◌}
+use Rattle.std.proofs.Common.{◌≡◌, List, length, refl, ap, arith, ◌∙◌}
 use Rattle.std.specs.List.{refill}
 use Rattle.std.proofs.lemmas.List.{length-reverse}
 use Rattle.ea_pool.specs.declared.heap.entry.Entry.{Entry}
@@ -12,14 +12,19 @@ use Rattle.ea_engine.proofs.worker.turn_steps.pop_drawn.Goals as goal
 turned_back : (xs ys : List Entry) → ys ≡ reverse xs → refill (length xs) xs ys ≡ reverse xs
 turned_back xs ys e = written (length xs) xs ys refl (ap length e ∙ length-reverse xs) ∙ e
 
-pub returns-clause-words : goal.returns-clause-words
-returns-clause-words g c = two_words _ _ _ _ _ c.next_u64-first.ensures c.next_u64-second.ensures
+pub pop_some_as-popped-requires-clause-room : goal.pop_some_as-popped-requires-clause-room
+pop_some_as-popped-requires-clause-room g c κs outlives =
+    let may = c.requires.taken in
+    (may.some, omega (arith, ap length may.none, may.few))
 
-pub returns-clause-looked : goal.returns-clause-looked
-returns-clause-looked g c =
-    looked_by _ _ _ _ _ _ _ _ _ c.next_u64-first.ensures c.next_u64-second.ensures c.pop_some_as-popped.ensures.looked
-
-pub returns-clause-popped : goal.returns-clause-popped
-returns-clause-popped g c =
-    took_by _ _ _ _ _ _ _ _ _ (with_items c.pop_some_as-popped.new.batch c.reverse.new.self) _ _ _ _ c.requires.none c.pop_some_as-popped.ensures.popped
-    (turned_back c.pop_some_as-popped.new.batch.items c.reverse.new.self (c.reverse.ensures.after ∙ ap reverse c.deref_mut.ensures.value))
+pub returns-clause-drawn : goal.returns-clause-drawn
+returns-clause-drawn g c =
+    let pops = c.pop_some_as-popped.ensures in
+    record {
+      popped = took_by _ _ _ _ _ _ _ _ _ (with_items c.pop_some_as-popped.new.batch c.reverse.new.self) _ _ _ _ c.requires.taken.none pops.popped
+          (turned_back c.pop_some_as-popped.new.batch.items c.reverse.new.self (c.reverse.ensures.after ∙ ap reverse c.deref_mut.ensures.value));
+      looked = looked_by _ _ _ _ _ _ _ _ _ c.next_u64-first.ensures c.next_u64-second.ensures pops.looked;
+      alone = pops.alone;
+      nothing = pops.nothing;
+      words_are = two_words _ _ _ _ _ c.next_u64-first.ensures c.next_u64-second.ensures;
+    }

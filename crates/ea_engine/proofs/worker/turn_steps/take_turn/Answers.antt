@@ -1,7 +1,26 @@
+use Rattle.std.proofs.Common.{◌∙◌}
 use Rattle.ea_engine.proofs.TurnLemmas.{IsTurn-pushed}
 use Rattle.ea_engine.proofs.worker.turn_steps.take_turn.Goals as goal
+
+pub visit_next-end-requires-clause-means : goal.visit_next-end-requires-clause-means
+visit_next-end-requires-clause-means g c κs outlives = c.requires.means
+
+pub push_fresh-requires-clause-pool_seat : goal.push_fresh-requires-clause-pool_seat
+push_fresh-requires-clause-pool_seat g c κs outlives = c.visit_next-end.ensures.means.seats.pool
+
+pub push_fresh-requires-clause-known : goal.push_fresh-requires-clause-known
+push_fresh-requires-clause-known g c κs outlives = c.visit_next-end.ensures.means.fresh_known
+
+pub returns-clause-means : goal.returns-clause-means
+returns-clause-means g c =
+    let held = c.visit_next-end.ensures.means in
+    record {
+      seats = record { labels = held.seats.labels; pool = c.push_fresh.ensures.pool_seat };
+      taken_known = held.taken_known;
+      fresh_known = c.push_fresh.ensures.fresh.left_known;
+    }
 
 pub returns-clause-turn : goal.returns-clause-turn
 returns-clause-turn g c =
     let due = c.is_due.ensures c.if-not-is_due.false in
-    IsTurn-pushed _ _ _ _ _ _ _ _ _ _ _ _ _ _ c.visit_next-end.ensures.turn (c.push_fresh.ensures.progress _) due.0 due.1 c.push_fresh.ensures.few
+    IsTurn-pushed _ _ _ _ _ _ _ _ _ _ _ _ _ _ c.visit_next-end.ensures.turn (c.push_fresh.ensures.fresh.progress _) due.0 due.1 c.push_fresh.ensures.fresh.few

@@ -4,14 +4,20 @@ use Rattle.ea_engine.proofs.HoldLemmas.{nothing}
 use Rattle.ea_engine.proofs.TurnLemmas.{IsTurn-visited}
 use Rattle.ea_engine.proofs.worker.turn_steps.visit_next.Goals as goal
 
+pub pop_and_visit-requires-clause-means : goal.pop_and_visit-requires-clause-means
+pop_and_visit-requires-clause-means g c κs outlives = c.requires.means
+
 pub pop_and_visit-requires-clause-taken : goal.pop_and_visit-requires-clause-taken
 pop_and_visit-requires-clause-taken g c κs outlives = nothing _ (grind (arith, nat_tests))
 
+pub visit_taken-requires-clause-means : goal.visit_taken-requires-clause-means
+visit_taken-requires-clause-means g c κs outlives = c.requires.means
+
 pub visit_taken-requires-clause-taken : goal.visit_taken-requires-clause-taken
-visit_taken-requires-clause-taken g c κs outlives = (grind (arith, nat_tests), c.requires.taken.1)
+visit_taken-requires-clause-taken g c κs outlives = grind (arith, nat_tests)
 
 pub returns-clause-turn : goal.returns-clause-turn
-returns-clause-turn g c = IsTurn-visited _ _ _ _ _ _ _ c.visit_taken.ensures.visit c.requires.taken.0
+returns-clause-turn g c = IsTurn-visited _ _ _ _ _ _ _ c.visit_taken.ensures.visit c.requires.taken
 
 pub returns-clause-pushes : goal.returns-clause-pushes
-returns-clause-pushes g c = c.visit_taken.ensures.visit.pushes
+returns-clause-pushes g c = c.visit_taken.ensures.visit.visit.pushes

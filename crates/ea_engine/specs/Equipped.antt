@@ -1,0 +1,75 @@
+-- What a worker stands on: the ground of its problem, its two seats, and the entries that it holds.
+use Rattle.std.specs.Prelude.{◌≡◌, ℕ, ◌<◌, ◌≤◌, List, Option, Bool, true, false, [], length}
+use Rattle.rand_core.specs.Stream.{Stream}
+use Rattle.ea_base.specs.declared.limits.TheConstants.{MOST_BATCH}
+use Rattle.ea_road.specs.Roads.{Roads, IsArc}
+use Rattle.ea_road.specs.declared.arc.Arc.{Arc}
+use Rattle.ea_labels.specs.Core as labels
+use Rattle.ea_labels.specs.declared.record.SeatRecord.{SeatRecord}
+use Rattle.ea_pool.specs.declared.heap.entry.Entry.{Entry}
+use Rattle.ea_pool.specs.declared.shared.account.Account.{Account}
+use Rattle.ea_pool.specs.Entries.{AreKnown}
+use Rattle.ea_engine.specs.declared.run.ground.Ground.{Ground}
+use Rattle.ea_engine.specs.declared.worker.means.Means.{Means}
+use Rattle.ea_engine.specs.declared.worker.turn.Lists.{Lists}
+use Rattle.ea_engine.specs.Problems.{Problem}
+use Rattle.ea_engine.specs.Grounds.{IsGround, tables_of}
+use Rattle.ea_engine.specs.Seated.{Tables, AreSeatsOf}
+use Rattle.ea_engine.specs.Worked.{kit, OnlySaw, Progress}
+
+-- The worker's seats were made by these tables, and its fresh entries are known.
+pub record AreMeans {K R E : Type 0} (known : ℕ → ℕ → Type 0) (tables : Tables) (means : Means K R E) (fresh : List Entry) : Type 0 where
+  pub seats : AreSeatsOf tables means.label_seat means.pool_seat
+  pub fresh_known : AreKnown known fresh
+
+-- The worker's seats were made by these tables, and the entries that it holds between two turns are known.
+pub record AreHeld {K R E : Type 0} (known : ℕ → ℕ → Type 0) (tables : Tables) (means : Means K R E) (lists : Lists) : Type 0 where
+  pub seats : AreSeatsOf tables means.label_seat means.pool_seat
+  pub taken_known : AreKnown known lists.taken.items
+  pub fresh_known : AreKnown known lists.fresh.items
+
+-- The lists have no entry.
+pub record HoldNothing (lists : Lists) : Type 0 where
+  pub taken : lists.taken.items ≡ []
+  pub fresh : lists.fresh.items ≡ []
+
+-- The entry is known, and the arc leaves its node.
+pub record MayFollow (known : ℕ → ℕ → Type 0) (network : Roads) (entry : Entry) (arc : Arc) : Type 0 where
+  pub is_known : known entry.node entry.key
+  pub number : ℕ
+  pub is_arc : IsArc network number arc
+  pub tail_is : arc.tail ≡ entry.node
+
+-- The seat saw some labels and lowered none.
+pub record OnlyRead (before after : labels.SeatView) : Type 0 where
+  pub same_table : after.table ≡ before.table
+  pub saw : OnlySaw before.history after.history
+
+-- All fresh entries were pushed with one drawn word. None is left exactly if the pool took all.
+pub record PushesFresh (known : ℕ → ℕ → Type 0) (before after : Account) (words words' : Stream) (fresh left : List Entry) (took_all : Bool) : Type 0 where
+  pub progress : (history : SeatRecord) → Progress (kit history before words [] fresh) (kit history after words' [] left) [] 1 0
+  pub left_known : AreKnown known left
+  pub none : took_all ≡ true → left ≡ []
+  pub some : took_all ≡ false → 0 < length left
+  pub few : length left ≤ length fresh
+
+module _ {K T E : Type 0} (known : ℕ → ℕ → Type 0) (problem : Problem) (answers : T → ℕ → ℕ → ℕ → ℕ → Type 0) (classes : T → ℕ) (ground : Ground K T E) where
+  -- The seat was made by the label table of the problem's ground.
+  pub record MayRead (seat : labels.SeatView) : Type 0 where
+    pub is_ground : IsGround known problem answers classes ground
+    pub seat_fits : seat.table ≡ ground.labels.now.table
+
+  -- The worker stands on the problem's ground and has room for one more fresh entry.
+  pub record MayRelax {R : Type 0} (batch : ℕ) (means : Means K R E) (fresh : List Entry) : Type 0 where
+    pub is_ground : IsGround known problem answers classes ground
+    pub are_means : AreMeans known (tables_of ground) means fresh
+    pub room : length fresh < batch
+    pub batch_few : batch ≤ MOST_BATCH
+
+  -- The same before a turn, with the target of the problem's query.
+  pub record MayTurn {R : Type 0} (target : Option ℕ) (batch : ℕ) (means : Means K R E) (lists : Lists) : Type 0 where
+    pub is_ground : IsGround known problem answers classes ground
+    pub target_is : target ≡ problem.query.target
+    pub are_held : AreHeld known (tables_of ground) means lists
+    pub room : length lists.fresh.items < batch
+    pub batch_few : batch ≤ MOST_BATCH
