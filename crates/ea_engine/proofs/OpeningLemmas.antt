@@ -2,15 +2,15 @@
 use Rattle.std.proofs.Common.{◌≡◌, ℕ, zero, suc, ◌+◌, ◌<◌, ◌≤◌, ◌∙◌, length, refl, arith}
 use Rattle.std.specs.Prelude.{Contains}
 use Rattle.ea_search.specs.Worklist.{Worklist}
-use Rattle.ea_engine.specs.Openings.{Opens}
+use Rattle.ea_engine.specs.Openings.{OpensUpTo}
 
-pub Opens-none : (a : Worklist) → Opens 0 a a
-Opens-none a = record { kept = λ node waits. waits; few = omega arith; some = λ some. omega (arith, some); nodes_are = refl; walks_are = refl }
+pub OpensUpTo-none : (a : Worklist) → OpensUpTo 0 a a
+OpensUpTo-none a = record { kept = λ node waits. waits; few = omega arith; some = λ some. omega (arith, some); nodes_are = refl; walks_are = refl }
 
 -- a node was added
-pub Opens-added : (a b : Worklist) (node : ℕ) → ((other : ℕ) → Contains a.waiting other → Contains b.waiting other) → Contains b.waiting node → length b.waiting ≤ length a.waiting + 1
-    → (b.nodes ≡ a.nodes) × (b.walks ≡ a.walks) → Opens 1 a b
-Opens-added a b node kept inside few room = record {
+pub OpensUpTo-added : (a b : Worklist) (node : ℕ) → ((other : ℕ) → Contains a.waiting other → Contains b.waiting other) → Contains b.waiting node → length b.waiting ≤ length a.waiting + 1
+    → (b.nodes ≡ a.nodes) × (b.walks ≡ a.walks) → OpensUpTo 1 a b
+OpensUpTo-added a b node kept inside few room = record {
   kept = kept;
   few = few;
   some = λ some. omega (arith, inside.1);
@@ -18,8 +18,8 @@ Opens-added a b node kept inside few room = record {
   walks_are = room.1;
 }
 
-pub Opens-then : (a b c : Worklist) (n m k : ℕ) → Opens n a b → Opens m b c → k ≡ n + m → Opens k a c
-Opens-then a b c n m k p q is = record {
+pub OpensUpTo-then : (a b c : Worklist) (n m k : ℕ) → OpensUpTo n a b → OpensUpTo m b c → k ≡ n + m → OpensUpTo k a c
+OpensUpTo-then a b c n m k p q is = record {
   kept = λ node waits. q.kept node (p.kept node waits);
   few = omega (arith, p.few, q.few, is);
   some = λ some. go (length a.waiting + n) refl some;

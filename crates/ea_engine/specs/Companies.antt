@@ -72,8 +72,9 @@ abbrev pub StaysOn : ℕ → List Told → Type 0
 StaysOn idle [] = Unit {0}
 StaysOn idle (t ∷ ts) = StaysAs t.0.kind t.0.number (idle_with idle t.0.kind) t.1 × StaysOn (idle_with idle t.0.kind) ts
 
--- The counts of consecutive turns are unchanged.
+-- The counts of consecutive turns, and the company's limit, are unchanged.
 pub record KeepsCounts (old new : Member) : Type 0 where
+  pub limit : new.company.now.most_falls ≡ old.company.now.most_falls
   pub idle : new.idle ≡ old.idle
   pub quiet : new.quiet ≡ old.quiet
   pub alone : new.alone ≡ old.alone
@@ -81,6 +82,13 @@ pub record KeepsCounts (old new : Member) : Type 0 where
 -- Only at a look may a member once more find all others idle.
 abbrev pub LooksOnce : ℕ → Member → Member → Type 0
 LooksOnce number old new = (new.alone ≤ old.alone) ⊎ (IsLook number × (new.alone ≤ old.alone + 1))
+
+-- A look at the others, at which the worker leaves only if it may.
+pub record LooksRound (old new : Member) (flow : Flow) : Type 0 where
+  pub leaves : flow ≡ Leave → (255 ≤ old.alone) ⊎ (old.company.now.most_falls < NO_LIMIT)
+  pub idle : new.idle ≡ old.idle
+  pub quiet : new.quiet ≡ old.quiet
+  pub alone : new.alone ≤ old.alone + 1
 
 -- A turn that visited an entry ends the consecutive turns without one.
 pub record FindsEntry (number : ℕ) (old new : Member) (flow : Flow) : Type 0 where

@@ -7,7 +7,7 @@ use Rattle.ea_labels.specs.declared.record.Bound.{Bound}
 use Rattle.ea_engine.specs.declared.run.gathering.Gathering.{Gathering}
 use Rattle.ea_engine.specs.declared.run.ran.Results.{Results}
 use Rattle.ea_engine.specs.declared.worker.work_loop.WorkerEnd.{WorkerEnd}
-use Rattle.ea_engine.specs.Openings.{Opens}
+use Rattle.ea_engine.specs.Openings.{OpensUpTo}
 
 -- There is room for one more.
 pub record HasRoom {R F : Type 0} (results : Results R F) : Type 0 where
@@ -42,7 +42,7 @@ pub record Joins {K R F E : Type 0} (end : WorkerEnd K R F E) (before after : Ga
   pub popped : length after.seats.pool_seat.account.popped ≡ length before.seats.pool_seat.account.popped + end.counters.popped
   pub returned : after.returned ≡ before.returned + end.counters.returned
   pub returned_few : end.counters.returned ≤ 2 * MOST_BATCH
-  pub opens : Opens end.counters.returned before.todo after.todo
+  pub opens : OpensUpTo end.counters.returned before.todo after.todo
   pub results : AddsEnd end before.results after.results
   pub room : SameRoom before.results after.results
   pub label_shares : after.seats.label_seat.history.shares ≡ before.seats.label_seat.history.shares + 1

@@ -6,7 +6,7 @@ use Rattle.ea_engine.specs.declared.worker.turn.Hand.{Hand}
 use Rattle.ea_engine.specs.Worked.{hand_size}
 
 -- At most this many nodes were opened, at least one waits if there was any, and nothing else changed.
-pub record Opens (count : ℕ) (before after : Worklist) : Type 0 where
+pub record OpensUpTo (count : ℕ) (before after : Worklist) : Type 0 where
   pub kept : (node : ℕ) → Contains before.waiting node → Contains after.waiting node
   pub few : length after.waiting ≤ length before.waiting + count
   pub some : 0 < length before.waiting + count → 0 < length after.waiting
@@ -16,14 +16,14 @@ pub record Opens (count : ℕ) (before after : Worklist) : Type 0 where
 -- The node of each of these entries was opened.
 pub record OpensAll (entries : List Entry) (before after : Worklist) : Type 0 where
   pub waits : (entry : Entry) → Contains entries entry → Contains after.waiting entry.node
-  pub opens : Opens (length entries) before after
+  pub opens : OpensUpTo (length entries) before after
 
 -- The node of each entry that a worker hands back was opened.
 pub record OpensHand (hand : Hand) (before after : Worklist) : Type 0 where
   pub popped : IfSome hand.popped (λ entry. Contains after.waiting entry.node)
   pub taken : (entry : Entry) → Contains hand.taken.items entry → Contains after.waiting entry.node
   pub fresh : (entry : Entry) → Contains hand.fresh.items entry → Contains after.waiting entry.node
-  pub opens : Opens (hand_size hand) before after
+  pub opens : OpensUpTo (hand_size hand) before after
 
 -- A worklist for this many nodes after this many seeds were handed back: at most as many nodes wait, and at
 -- least one if there was any.

@@ -21,7 +21,7 @@ use Rattle.ea_engine.specs.declared.worker.work_loop.WorkerEnd.{WorkerEnd}
 use Rattle.ea_engine.specs.Ends.{AreFresh, IsEndPlace}
 use Rattle.ea_engine.specs.Gathered.{AccountForAll, IsGathered, IsHanded}
 use Rattle.ea_engine.specs.Opened.{AreOffered}
-use Rattle.ea_engine.specs.Openings.{Opens}
+use Rattle.ea_engine.specs.Openings.{OpensUpTo}
 use Rattle.ea_engine.specs.Problems.{Problem}
 use Rattle.ea_engine.specs.Rows.{IsSeatedRow, IsRunRow}
 use Rattle.ea_engine.specs.Seated.{Tables, AreSeatsOf, HaveAllShares}
@@ -105,14 +105,14 @@ module _ {K R T E : Type 0} (problem : Problem) (tables : Tables) where
     pub shares : HaveAllShares gathering.seats
 
 -- The tables are closed: the finishing pass may begin, and what was pushed was popped or drained.
-pub record IsSettled (problem : Problem) (account : Account) (before : Worklist) (settled : Settled) : Type 0 where
+pub record HasSettled (problem : Problem) (account : Account) (before : Worklist) (settled : Settled) : Type 0 where
   pub underway : IsUnderway problem.network problem.answers problem.query settled.table.items settled.todo.waiting
   pub nodes_are : settled.todo.nodes ≡ problem.network.nodes
   pub drained : length account.pushed ≡ length account.popped + settled.drained
-  pub opens : Opens settled.drained before settled.todo
+  pub opens : OpensUpTo settled.drained before settled.todo
 
 -- The finishing pass may begin with this table and worklist, which has storage for walks if they are asked for.
-pub record IsBegun {R T : Type 0} (network : Roads) (answers : ℕ → ℕ → ℕ → ℕ → Type 0) (query : Asking) (walks : Bool) (begun : Begun R T) : Type 0 where
+pub record HasBegun {R T : Type 0} (network : Roads) (answers : ℕ → ℕ → ℕ → ℕ → Type 0) (query : Asking) (walks : Bool) (begun : Begun R T) : Type 0 where
   pub underway : IsUnderway network answers query begun.table.items begun.todo.waiting
   pub nodes_are : begun.todo.nodes ≡ network.nodes
   pub walks_are : begun.todo.walks ≡ walks

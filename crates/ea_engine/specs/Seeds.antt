@@ -11,7 +11,7 @@ use Rattle.ea_pool.specs.declared.shared.account.Account.{Account}
 use Rattle.ea_engine.specs.Closed.{IsReachedBy}
 use Rattle.ea_engine.specs.Gathered.{IsGathered}
 use Rattle.ea_engine.specs.Opened.{AreOffered}
-use Rattle.ea_engine.specs.Openings.{HoldsBack, Opens}
+use Rattle.ea_engine.specs.Openings.{HoldsBack, OpensUpTo}
 use Rattle.ea_engine.specs.Problems.{Problem}
 use Rattle.ea_engine.specs.declared.worker.means.Seats.{Seats}
 use Rattle.ea_engine.specs.declared.run.seeds.Seeded.{Seeded}
@@ -84,14 +84,14 @@ pub record HasOffered {K E : Type 0} (seeded : Seeded) (before after : Seats K E
   pub bounds : (b : Bound) → Contains before.label_seat.history.bounds b → Contains after.label_seat.history.bounds b
   pub offers : OffersSeed seeded before.label_seat.history after.label_seat.history source
   pub step : HasPushed (seeded_by seeded) before after
-  pub opens : Opens (back_by seeded) todo todo'
+  pub opens : OpensUpTo (back_by seeded) todo todo'
 
 -- What pushing the entry of a source does, whose label fell.
 pub record HasSown (problem : Problem) (seeded : Seeded) (before after : Account) (todo todo' : Worklist) (source : Source) : Type 0 where
   pub gathered : (r s : SeatRecord) → Lowers r source s → IsGathered problem r before todo.waiting → IsGathered problem s after todo'.waiting
   pub offers : (r s : SeatRecord) → SowsSeed r s source → OffersSeed seeded r s source
   pub step : Sows (seeded_by seeded) before after
-  pub opens : Opens (back_by seeded) todo todo'
+  pub opens : OpensUpTo (back_by seeded) todo todo'
 
 -- The seeding of an empty worklist with these sources: the nodes of those that were handed back wait.
 pub record IsSeeding (sources : List Source) (before after : Worklist) (seeds : Seeds) : Type 0 where
@@ -104,6 +104,6 @@ pub record IsSeeding (sources : List Source) (before after : Worklist) (seeds : 
 pub record HaveOffered {K E : Type 0} (sources : List Source) (before after : Seats K E) (todo todo' : Worklist) (seeds : Seeds) : Type 0 where
   pub offered : AreOffered sources after.label_seat.history
   pub step : HasPushed seeds.seeded before after
-  pub opens : Opens seeds.returned todo todo'
+  pub opens : OpensUpTo seeds.returned todo todo'
   pub small : seeds.seeded + seeds.returned < 2 ^ 64
   pub counted : before.label_seat.history ≡ first_record → AreSeeds sources (seeds.seeded + seeds.returned)

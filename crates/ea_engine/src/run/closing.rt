@@ -3,7 +3,7 @@ ghost use Rattle.std.specs.Prelude.{◌≡◌, ◌<◌, ◌^◌, length};
 ghost use Rattle.ea_engine.specs.Gathered.{AccountForAll};
 ghost use Rattle.ea_engine.specs.Opened.{AreOffered};
 ghost use Rattle.ea_engine.specs.Problems.{IsPosed};
-ghost use Rattle.ea_engine.specs.Rowed.{IsSettled};
+ghost use Rattle.ea_engine.specs.Rowed.{HasSettled};
 ghost use Rattle.ea_engine.specs.Seated.{tables, HaveAllShares};
 
 use crate::run::drained::drain;
@@ -37,7 +37,7 @@ pub fn settle<K: Known + Posed, E: EntryHeap>(
     requires shares { HaveAllShares seats }
     requires few { length seats.pool_seat.account.pushed < 2 ^ 127 }
     requires offered { AreOffered K.problem.query.sources seats.label_seat.history }
-    ensures { IsSettled K.problem seats.pool_seat.account todo result }
+    ensures { HasSettled K.problem seats.pool_seat.account todo result }
 {
     let Seats {
         label_seat,

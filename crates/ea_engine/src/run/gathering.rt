@@ -5,7 +5,7 @@ ghost use Rattle.ea_road.specs.Roads.{IsNode};
 ghost use Rattle.ea_engine.specs.Ends.{IsEnd};
 ghost use Rattle.ea_engine.specs.Gathered.{AccountForAll};
 ghost use Rattle.ea_engine.specs.Grown.{BeginsWith, HasRoom, Joins};
-ghost use Rattle.ea_engine.specs.Openings.{HoldsBack, Opens, OpensAll, OpensHand};
+ghost use Rattle.ea_engine.specs.Openings.{HoldsBack, OpensUpTo, OpensAll, OpensHand};
 ghost use Rattle.ea_engine.specs.Reserved.{AreUnfilled};
 ghost use Rattle.ea_engine.specs.Rowed.{IsFirstEnd, IsDoneRow, AreGathered, IsDonePlace, IsGatheredRow};
 ghost use Rattle.ea_engine.specs.Seated.{tables};
@@ -38,7 +38,7 @@ pub struct Gathering<K: Known, R, F, E: EntryHeap = LeastHeap<Global>> {
 pub fn keep(todo: &mut Open, entry: Option<Entry>)
     requires { IfSome entry (λ e. IsNode todo.old.nodes e.node) }
     ensures waits { IfSome entry (λ e. Contains todo.new.waiting e.node) }
-    ensures opens { Opens (length (option_to_list entry)) todo.old todo.new }
+    ensures opens { OpensUpTo (length (option_to_list entry)) todo.old todo.new }
 {
     if let Some(entry) = entry {
         todo.add(entry.node);

@@ -7,7 +7,7 @@ ghost use Rattle.ea_engine.specs.Limits.{pace_of};
 ghost use Rattle.ea_engine.specs.Openings.{HoldsBack};
 ghost use Rattle.ea_engine.specs.Problems.{IsNamedProblem, IsPosed};
 ghost use Rattle.ea_engine.specs.Reserved.{AreArrays, AreReserved, AreUnfilled, HaveRoom};
-ghost use Rattle.ea_engine.specs.Rowed.{AreSeated, HaveWorked, IsBegun, IsDoneRow, IsSeeded, IsSettledRow};
+ghost use Rattle.ea_engine.specs.Rowed.{AreSeated, HaveWorked, HasBegun, IsDoneRow, IsSeeded, IsSettledRow};
 ghost use Rattle.ea_engine.specs.Runs.{IsCrew, IsRunOf};
 ghost use Rattle.ea_engine.specs.Seated.{tables, AreSeatsOf, HaveAllShares};
 ghost use Rattle.ea_engine.specs.Seeds.{IsSeeding};
@@ -143,7 +143,7 @@ fn settle_row<K: Known + Posed, E: EntryHeap, R: Drop, F: Drop>(
     requires todo { HoldsBack labels.nodes seeds.returned todo }
     requires small { seeds.seeded + seeds.returned < 2 ^ 64 }
     requires results { AreUnfilled (vec_len row) results }
-    ensures begun { IsBegun K.problem.network K.problem.answers K.problem.query
+    ensures begun { HasBegun K.problem.network K.problem.answers K.problem.query
         todo.walks result }
     ensures row { IsSettledRow seeds.seeded seeds.returned row.items result.ran }
 {
@@ -190,7 +190,7 @@ pub fn run<
     requires crew { IsCrew F.IsAlwaysCallable crew }
     requires arrays { AreArrays network.now.nodes (crew.settings.workers * crew.settings.heaps)
         crew.settings.workers arrays.todo.walks arrays }
-    ensures begun { IsBegun network.now (T.answers times.now) query.now
+    ensures begun { HasBegun network.now (T.answers times.now) query.now
         arrays.todo.walks result }
     ensures run { IsRunOf R.stream F.step network.now (T.answers times.now) query.now
         crew.entry result.ran }

@@ -1,6 +1,7 @@
 //! Termination detection: workers notice together that nothing is left to do.
-ghost use Rattle.std.specs.Prelude.{◌≡◌, ℕ, ◌+◌, ◌/◌, ◌<◌, ◌≤◌, ◌⊎◌, false};
-ghost use Rattle.ea_engine.specs.Companies.{idle_with, FindsEntry, FindsNothing, IsIdleFor, KeepsCounts, LeavesAs, LooksOnce};
+ghost use Rattle.std.specs.Prelude.{◌≡◌, ℕ, ◌+◌, ◌/◌, ◌<◌, false};
+ghost use Rattle.ea_engine.specs.Companies.{idle_with, IsIdleFor, KeepsCounts, LeavesAs};
+ghost use Rattle.ea_engine.specs.Companies.{FindsEntry, FindsNothing, LooksOnce, LooksRound};
 
 use crate::worker::turn::{Flow, Turn, TurnKind};
 use std::sync::atomic::Ordering::SeqCst;
@@ -166,8 +167,7 @@ impl Member<'_> {
 
     /// Marks the worker active.
     fn rise(&mut self)
-        ensures rest { KeepsCounts self.old self.new }
-        ensures limit { self.new.company.now.most_falls ≡ self.old.company.now.most_falls }
+        ensures { KeepsCounts self.old self.new }
     {
         if !self.is_active {
             self.is_active = true;
@@ -252,10 +252,7 @@ impl Member<'_> {
     /// Looks at the others. Not inlined, so that most turns take a few instructions.
     #[inline(never)]
     fn look(&mut self) -> Flow
-        ensures leaves { result ≡ Flow.Leave
-            → (255 ≤ self.old.alone) ⊎ (self.old.company.now.most_falls < NO_LIMIT) }
-        ensures idle { (self.new.idle ≡ self.old.idle) × (self.new.quiet ≡ self.old.quiet) }
-        ensures alone { self.new.alone ≤ self.old.alone + 1 }
+        ensures { LooksRound self.old self.new result }
     {
         let alone = self.is_alone();
         if !self.gains() {

@@ -4,7 +4,7 @@ use Rattle.std.proofs.lemmas.List.Elements.{Contains-append_cases, Contains-appe
 use Rattle.ea_labels.specs.Core.{IsLawful}
 use Rattle.ea_pool.specs.declared.heap.entry.Entry.{Entry}
 use Rattle.ea_engine.specs.Opened.{AreJoinedAndClosed}
-use Rattle.ea_engine.specs.Openings.{Opens}
+use Rattle.ea_engine.specs.Openings.{OpensUpTo}
 use Rattle.ea_engine.proofs.GroundLemmas.{node_of}
 use Rattle.ea_engine.proofs.Nothing.{may_finish}
 use Rattle.ea_engine.proofs.Settling.{left_known}
@@ -72,5 +72,5 @@ returns g c =
           ]);
       nodes_are = drains.opens.nodes_are ∙ c.requires.account.nodes_are ∙ c.requires.places;
       drained = omega (arith, left_count g d, c.drain-drained.ensures.counted);
-      opens = subst (λ n. Opens n c.args.todo c.drain-drained.new.todo) (sym c.drain-drained.ensures.counted) drains.opens;
+      opens = subst (λ n. OpensUpTo n c.args.todo c.drain-drained.new.todo) (sym c.drain-drained.ensures.counted) drains.opens;
     }

@@ -2,8 +2,8 @@ use Rattle.std.proofs.Common.{◌∷◌, length, ap, refl, sym, arith, subst, in
 use Rattle.std.specs.Prelude.{Contains}
 use Rattle.ea_pool.specs.declared.heap.entry.Entry.{Entry}
 use Rattle.ea_engine.proofs.Multisets.{Contains-head, Contains-later, Contains-same, Contains-tail, same_length}
-use Rattle.ea_engine.specs.Openings.{Opens}
-use Rattle.ea_engine.proofs.OpeningLemmas.{Opens-none, Opens-added, Opens-then}
+use Rattle.ea_engine.specs.Openings.{OpensUpTo}
+use Rattle.ea_engine.proofs.OpeningLemmas.{OpensUpTo-none, OpensUpTo-added, OpensUpTo-then}
 use Rattle.ea_engine.proofs.run.drained.drain.Goals as goal
 
 pub add-requires : goal.add-requires
@@ -26,11 +26,11 @@ loop-entry-preserved g c =
         | inr waits ↦ inr (c.add.ensures.kept e.node waits)
       ];
       counted = omega (arith, c.loop-entry.invariant.counted, same_length c.loop-entry.closed (entry ∷ rest) c.in-Some.ensures);
-      opens = Opens-then _ _ _ _ 1 _ c.loop-entry.invariant.opens (Opens-added _ _ entry.node c.add.ensures.kept c.add.ensures.inside c.add.ensures.at_most_one c.add.ensures.room) refl;
+      opens = OpensUpTo-then _ _ _ _ 1 _ c.loop-entry.invariant.opens (OpensUpTo-added _ _ entry.node c.add.ensures.kept c.add.ensures.inside c.add.ensures.at_most_one c.add.ensures.room) refl;
     }
 
 pub loop-entry-init : goal.loop-entry-init
-loop-entry-init g c = record { left = λ entry inside. inside; done = λ entry inside. inl inside; counted = omega arith; opens = Opens-none _ }
+loop-entry-init g c = record { left = λ entry inside. inside; done = λ entry inside. inl inside; counted = omega arith; opens = OpensUpTo-none _ }
 
 pub returns-clause-drained : goal.returns-clause-drained
 returns-clause-drained g c =
@@ -40,7 +40,7 @@ returns-clause-drained g c =
         | inl stays ↦ absurd (omega (arith, (rw c.in_default.ensures.0 at stays).1))
         | inr waits ↦ waits
       ];
-      opens = subst (λ n. Opens n c.args.todo.now c.loop-entry.todo) (omega (arith, inv.counted, ap length c.in_default.ensures.0)) inv.opens;
+      opens = subst (λ n. OpensUpTo n c.args.todo.now c.loop-entry.todo) (omega (arith, inv.counted, ap length c.in_default.ensures.0)) inv.opens;
     }
 
 pub overflow_add-drained : goal.overflow_add-drained

@@ -2,7 +2,7 @@ use Rattle.std.proofs.Common.{◌≡◌, ◌+◌, ◌⊎◌, length}
 use Rattle.std.specs.Prelude.{Contains}
 use Rattle.ea_pool.specs.declared.heap.entry.Entry.{Entry}
 use Rattle.ea_machine.specs.Totals.{total}
-use Rattle.ea_engine.specs.Openings.{Opens}
+use Rattle.ea_engine.specs.Openings.{OpensUpTo}
 use Rattle.ea_engine.proofs.run.drained.drain.Given as goal
 
 abbrev pub invariant-loop-entry : goal.invariant-loop-entry
@@ -10,7 +10,7 @@ invariant-loop-entry g l = record {
   left : (entry : Entry) → Contains l.closed entry → Contains l.fn.closed entry;
   done : (entry : Entry) → Contains l.fn.closed entry → Contains l.closed entry ⊎ Contains l.todo.waiting entry.node;
   counted : l.drained + length l.closed ≡ length l.fn.closed;
-  opens : Opens l.drained l.fn.todo l.todo;
+  opens : OpensUpTo l.drained l.fn.todo l.todo;
 }
 
 abbrev pub decreases-loop-entry : goal.decreases-loop-entry

@@ -1,6 +1,6 @@
 use Rattle.std.proofs.Common.{◌+◌, ◌∙◌, length, length-append, ap, arith, subst, sym}
 use Rattle.std.proofs.lemmas.List.Elements.{Contains-append_right}
-use Rattle.ea_engine.specs.Openings.{Opens}
+use Rattle.ea_engine.specs.Openings.{OpensUpTo}
 use Rattle.ea_engine.specs.Worked.{IsHandInside}
 use Rattle.ea_engine.proofs.JoinLemmas.{gathered_joined}
 use Rattle.ea_engine.proofs.run.gathering.join_end.Goals as goal
@@ -35,7 +35,7 @@ returns-clause-joins g c =
       popped = ap length both.2 ∙ length-append _ _ ∙ ap (λ n. length c.args.gathering.now.seats.pool_seat.account.popped + n) end.popped_is;
       returned = omega (arith, c.from.ensures);
       returned_few = omega (arith, end.returned_is, end.returned_few);
-      opens = subst (λ n. Opens n c.args.gathering.now.todo c.keep_hand.new.todo) (sym end.returned_is) c.keep_hand.ensures.opens;
+      opens = subst (λ n. OpensUpTo n c.args.gathering.now.todo c.keep_hand.new.todo) (sym end.returned_is) c.keep_hand.ensures.opens;
       results = record { counters = c.push_reserved.ensures.items; rngs = c.push_reserved-2.ensures.items; tracers = c.push_reserved-3.ensures.items };
       room = record { counters = c.push_reserved.ensures.capacity; rngs = c.push_reserved-2.ensures.capacity; tracers = c.push_reserved-3.ensures.capacity };
       label_shares = omega (arith, ap (λ x. x.shares) gains, end.label_share);

@@ -1,5 +1,5 @@
 use Rattle.std.proofs.Common.{refl, arith}
-use Rattle.ea_engine.proofs.OpeningLemmas.{Opens-then}
+use Rattle.ea_engine.proofs.OpeningLemmas.{OpensUpTo-then}
 use Rattle.ea_engine.proofs.Settling.{each_of_option, of_option}
 use Rattle.ea_engine.proofs.run.gathering.keep_hand.Goals as goal
 
@@ -25,5 +25,5 @@ returns c =
       popped = each_of_option c.args.hand.now.popped _ (λ e inside. third.opens.kept e.node (second.opens.kept e.node (of_option c.args.hand.now.popped _ first.waits e inside)));
       taken = λ e inside. third.opens.kept e.node (second.waits e inside);
       fresh = third.waits;
-      opens = Opens-then _ _ _ _ _ _ (Opens-then _ _ _ _ _ _ first.opens second.opens refl) third.opens refl;
+      opens = OpensUpTo-then _ _ _ _ _ _ (OpensUpTo-then _ _ _ _ _ _ first.opens second.opens refl) third.opens refl;
     }

@@ -4,7 +4,7 @@ use Rattle.ea_labels.specs.Core.{bound}
 use Rattle.ea_engine.proofs.BoundLemmas.{IsReachedBy-noted}
 use Rattle.ea_engine.proofs.ProgressLemmas.{Contains-kept}
 use Rattle.ea_engine.proofs.AccountLemmas.{closed_noted}
-use Rattle.ea_engine.proofs.OpeningLemmas.{Opens-none}
+use Rattle.ea_engine.proofs.OpeningLemmas.{OpensUpTo-none}
 use Rattle.ea_engine.proofs.SeedLemmas.{sows_of}
 use Rattle.ea_engine.proofs.run.seeds.seed.Goals as goal
 
@@ -49,7 +49,7 @@ returns-in-Kept-clause-offered g c =
             (low.0, low.1, low.2, low.3, (low.4.0, omega (arith, low.4.1, kept.1)));
       };
       step = record { pushed_is = omega arith; popped_is = refl; label_shares = c.offer-offered.ensures.same_shares; pool_shares = refl };
-      opens = Opens-none _;
+      opens = OpensUpTo-none _;
     }
 
 pub returns-in-Lowered-clause-account : goal.returns-in-Lowered-clause-account

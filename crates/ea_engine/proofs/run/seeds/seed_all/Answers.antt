@@ -10,7 +10,7 @@ use Rattle.ea_labels.specs.declared.record.SeatRecord.{SeatRecord}
 use Rattle.std.proofs.lemmas.List.{take_all}
 use Rattle.ea_engine.specs.Seeds.{AreSeeds}
 use Rattle.ea_engine.proofs.SeedLemmas.{IsSown, IsSown-start, IsSown-kept, IsSown-lowered}
-use Rattle.ea_engine.proofs.OpeningLemmas.{Opens-none, Opens-then}
+use Rattle.ea_engine.proofs.OpeningLemmas.{OpensUpTo-none, OpensUpTo-then}
 use Rattle.ea_engine.proofs.Settling.{pushed_then}
 use Rattle.ea_engine.proofs.run.seeds.seed_all.Goals as goal
 use Rattle.ea_engine.proofs.run.seeds.seed_all.Goals.{in-Kept, in-Pushed, in-HandedBack}
@@ -35,7 +35,7 @@ seed-requires-clause-source g c κs outlives =
 pub loop-place-init : goal.loop-place-init
 loop-place-init g c = record {
   account = c.requires.account;
-  opens = Opens-none _;
+  opens = OpensUpTo-none _;
   offered = λ k d lt. absurd (omega (arith, lt));
   step = search rules;
   counted = λ new. IsSown-start _ _ (ap (λ (r : SeatRecord). r.lowerings) new);
@@ -46,9 +46,9 @@ pub loop-place-preserved : goal.loop-place-preserved
 loop-place-preserved g c = record {
   account = c.seed.ensures.account;
   opens = elim c.match-seed.branch [
-    | in-Kept w ↦ Opens-then _ _ _ _ 0 _ c.loop-place.invariant.opens w.in-Kept.ensures.offered.opens (omega arith)
-    | in-Pushed w ↦ Opens-then _ _ _ _ 0 _ c.loop-place.invariant.opens w.in-Pushed.ensures.offered.opens (omega arith)
-    | in-HandedBack w ↦ Opens-then _ _ _ _ 1 _ c.loop-place.invariant.opens w.in-HandedBack.ensures.offered.opens (omega arith)
+    | in-Kept w ↦ OpensUpTo-then _ _ _ _ 0 _ c.loop-place.invariant.opens w.in-Kept.ensures.offered.opens (omega arith)
+    | in-Pushed w ↦ OpensUpTo-then _ _ _ _ 0 _ c.loop-place.invariant.opens w.in-Pushed.ensures.offered.opens (omega arith)
+    | in-HandedBack w ↦ OpensUpTo-then _ _ _ _ 1 _ c.loop-place.invariant.opens w.in-HandedBack.ensures.offered.opens (omega arith)
   ];
   offered = λ k d lt.
       let sources = c.sources-sources.result.now in

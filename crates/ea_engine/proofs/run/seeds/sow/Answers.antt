@@ -1,7 +1,7 @@
 use Rattle.std.proofs.Common.{◌∷◌, arith, ap, length}
 use Rattle.ea_engine.specs.Closed.{entry_at}
 use Rattle.ea_engine.proofs.AccountLemmas.{closed_pushed, closed_refused, waits_more}
-use Rattle.ea_engine.proofs.OpeningLemmas.{Opens-none, Opens-added}
+use Rattle.ea_engine.proofs.OpeningLemmas.{OpensUpTo-none, OpensUpTo-added}
 use Rattle.ea_engine.proofs.run.seeds.sow.Goals as goal
 
 pub push_as-requires-clause-known : goal.push_as-requires-clause-known
@@ -24,7 +24,7 @@ returns-in-Ok-clause-sown g c = record {
     popped_is = c.in-Ok.ensures.pushed.2;
     shares_are = c.in-Ok.ensures.pushed.0;
   };
-  opens = Opens-none _;
+  opens = OpensUpTo-none _;
 }
 
 pub returns-in-Err-clause-sown : goal.returns-in-Err-clause-sown
@@ -41,5 +41,5 @@ returns-in-Err-clause-sown g c =
           };
       offers = λ before after sown. sown;
       step = record { pushed_is = omega (arith, ap length same.1); popped_is = same.2; shares_are = same.0 };
-      opens = Opens-added _ _ c.args.source.node c.add.ensures.kept c.add.ensures.inside c.add.ensures.at_most_one c.add.ensures.room;
+      opens = OpensUpTo-added _ _ c.args.source.node c.add.ensures.kept c.add.ensures.inside c.add.ensures.at_most_one c.add.ensures.room;
     }
