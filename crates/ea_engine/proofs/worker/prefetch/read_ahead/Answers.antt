@@ -1,6 +1,6 @@
 use Rattle.std.proofs.Common.{refl, ◌∙◌}
 use Rattle.ea_engine.proofs.HoldLemmas.{known_at}
-use Rattle.ea_engine.proofs.ProgressLemmas.{OnlySaw-none, OnlySaw-then}
+use Rattle.ea_engine.proofs.ProgressLemmas.{OnlySaw-then}
 use Rattle.ea_engine.proofs.worker.prefetch.read_ahead.Goals as goal
 
 pub read_heads-requires-clause-seat : goal.read_heads-requires-clause-seat

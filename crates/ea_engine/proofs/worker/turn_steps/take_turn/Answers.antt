@@ -1,4 +1,3 @@
-use Rattle.std.proofs.Common.{◌∙◌}
 use Rattle.ea_engine.proofs.TurnLemmas.{IsTurn-pushed}
 use Rattle.ea_engine.proofs.worker.turn_steps.take_turn.Goals as goal
 
