@@ -7,7 +7,7 @@ use Rattle.ea_road.specs.declared.arc.Arc.{Arc}
 use Rattle.ea_labels.specs.Core as labels
 use Rattle.ea_labels.specs.declared.record.SeatRecord.{SeatRecord}
 use Rattle.ea_pool.specs.declared.heap.entry.Entry.{Entry}
-use Rattle.ea_pool.specs.declared.shared.account.Account.{Account}
+use Rattle.ea_pool.specs.Seats as pools
 use Rattle.ea_pool.specs.Entries.{AreKnown}
 use Rattle.ea_engine.specs.declared.run.ground.Ground.{Ground}
 use Rattle.ea_engine.specs.declared.worker.means.Means.{Means}
@@ -46,8 +46,9 @@ pub record OnlyRead (before after : labels.SeatView) : Type 0 where
   pub saw : OnlySaw before.history after.history
 
 -- All fresh entries were pushed with one drawn word. None is left exactly if the pool took all.
-pub record PushesFresh (known : ℕ → ℕ → Type 0) (before after : Account) (words words' : Stream) (fresh left : List Entry) (took_all : Bool) : Type 0 where
-  pub progress : (history : SeatRecord) → Progress (kit history before words [] fresh) (kit history after words' [] left) [] 1 0
+pub record PushesFresh (known : ℕ → ℕ → Type 0) (pool : pools.PoolView) (before after : pools.SeatView) (words words' : Stream) (fresh left : List Entry) (took_all : Bool) : Type 0 where
+  pub of_pool : pools.IsSeatOf pool after
+  pub progress : (history : SeatRecord) → Progress (kit history before.account words [] fresh) (kit history after.account words' [] left) [] 1 0
   pub left_known : AreKnown known left
   pub none : took_all ≡ true → left ≡ []
   pub some : took_all ≡ false → 0 < length left

@@ -50,17 +50,18 @@ pub record MayTake (most : ℕ) (taken : List Entry) : Type 0 where
   pub some : 0 < most
   pub few : most ≤ MOST_BATCH
 
--- What a pop by two drawn words returned, from a pool of this many heaps of a kind: the entries that it took,
--- or what it saw of the two heaps. A seat with all shares is never busy; with two heaps it finds them empty
--- only if nothing is left.
-pub record PopsDrawn (known : ℕ → ℕ → Type 0) (kind : HeapKind) (heaps most : ℕ) (taken : List Entry) (before after : pools.SeatView) (words words' : Stream) (reply : PoppedSome) : Type 0 where
-  pub popped : MatchSome reply (TookSome known kind heaps most taken before.account after.account)
+-- What a pop by two drawn words returned, from a pool with heaps of a kind: the entries that it took, or what
+-- it saw of the two heaps. A seat with all shares is never busy; with two heaps it finds them empty only if
+-- nothing is left.
+pub record PopsDrawn (known : ℕ → ℕ → Type 0) (kind : HeapKind) (pool : pools.PoolView) (most : ℕ) (taken : List Entry) (before after : pools.SeatView) (words words' : Stream) (reply : PoppedSome) : Type 0 where
+  pub of_pool : pools.IsSeatOf pool after
+  pub popped : MatchSome reply (TookSome known kind pool.heaps most taken before.account after.account)
       (SameBooks before.account after.account × (taken ≡ [])) (SameBooks before.account after.account × (taken ≡ []))
   pub looked : MatchSome reply (Unit {0})
-      (LookedAt (first_heap heaps words) EMPTY (second_heap heaps words) EMPTY before.seen after.seen)
-      (WasBusy (first_heap heaps words) (second_heap heaps words) before.seen after.seen)
+      (LookedAt (first_heap pool.heaps words) EMPTY (second_heap pool.heaps words) EMPTY before.seen after.seen)
+      (WasBusy (first_heap pool.heaps words) (second_heap pool.heaps words) before.seen after.seen)
   pub alone : before.account.shares ≡ SHARES → MatchSome reply (Unit {0}) (Unit {0}) ⊥
-  pub nothing : before.account.shares ≡ SHARES → heaps ≡ 2 → MatchSome reply (Unit {0}) (NothingLeft before.account) (Unit {0})
+  pub nothing : before.account.shares ≡ SHARES → pool.heaps ≡ 2 → MatchSome reply (Unit {0}) (NothingLeft before.account) (Unit {0})
   pub words_are : words' ≡ after_words 2 words
 
 -- The same without the taken entries.

@@ -7,6 +7,7 @@ use Rattle.ea_labels.specs.declared.record.SeatRecord.{SeatRecord}
 use Rattle.ea_road.specs.Roads.{IsNode}
 use Rattle.ea_labels.specs.declared.record.Bound.{Bound}
 use Rattle.ea_labels.specs.Core.{first_record, lowered, lowering}
+use Rattle.ea_pool.specs.Seats as pools
 use Rattle.ea_pool.specs.declared.shared.account.Account.{Account}
 use Rattle.ea_engine.specs.Closed.{IsReachedBy}
 use Rattle.ea_engine.specs.Gathered.{IsGathered}
@@ -87,10 +88,11 @@ pub record HasOffered {K E : Type 0} (seeded : Seeded) (before after : Seats K E
   pub opens : OpensUpTo (back_by seeded) todo todo'
 
 -- What pushing the entry of a source does, whose label fell.
-pub record HasSown (problem : Problem) (seeded : Seeded) (before after : Account) (todo todo' : Worklist) (source : Source) : Type 0 where
-  pub gathered : (r s : SeatRecord) → Lowers r source s → IsGathered problem r before todo.waiting → IsGathered problem s after todo'.waiting
+pub record HasSown (problem : Problem) (pool : pools.PoolView) (seeded : Seeded) (before after : pools.SeatView) (todo todo' : Worklist) (source : Source) : Type 0 where
+  pub of_pool : pools.IsSeatOf pool after
+  pub gathered : (r s : SeatRecord) → Lowers r source s → IsGathered problem r before.account todo.waiting → IsGathered problem s after.account todo'.waiting
   pub offers : (r s : SeatRecord) → SowsSeed r s source → OffersSeed seeded r s source
-  pub step : Sows (seeded_by seeded) before after
+  pub step : Sows (seeded_by seeded) before.account after.account
   pub opens : OpensUpTo (back_by seeded) todo todo'
 
 -- The seeding of an empty worklist with these sources: the nodes of those that were handed back wait.

@@ -142,6 +142,11 @@ module _ (problem : Problem) where
     pub never_busy : from.account.shares ≡ SHARES → is_busy end.turn.kind ≡ false
     pub lone : from.taken ≡ [] → from.account.shares ≡ SHARES → IsLoneAs kind heaps from.account end.turn.kind (entry_at end.turn.key end.turn.node)
 
+  -- The same, with at most this many pushes more than labels fell.
+  pub record IsTurnWithin (kind : HeapKind) (batch heaps extra : ℕ) (from to : Kit) (number : ℕ) (end : TurnEnd) : Type 0 where
+    pub turn : IsTurn kind batch heaps from to number end
+    pub pushes : end.pushes ≤ end.turn.lowered + extra
+
   module _ {T : Type 0} (shows : T → Turn → Flow → T → Type 0) where
     -- The worker showed its tracer the turns of one lawful turn list, each once and in order. The pool has
     -- this many heaps.

@@ -1,5 +1,5 @@
 //! Pushing the sources' entries, before any worker starts.
-ghost use Rattle.ea_pool.specs.Seats.{account_of, IsSeatOf};
+ghost use Rattle.ea_pool.specs.Seats.{IsSeatOf};
 ghost use Rattle.ea_engine.specs.Gathered.{AccountForAll};
 ghost use Rattle.ea_engine.specs.Grounds.{IsGround, tables_of};
 ghost use Rattle.ea_engine.specs.Seeds.{HasOffered, HasSown, HaveOffered, MayOffer};
@@ -67,9 +67,7 @@ fn sow<K: Known + Posed, E: EntryHeap>(
 ) -> Seeded
     requires seat { IsSeatOf pool.now seat.old }
     requires source { MayOffer K.is_known todo.old.nodes source }
-    ensures seat { IsSeatOf pool.now seat.new }
-    ensures sown { HasSown K.problem result (account_of seat.old) (account_of seat.new)
-        todo.old todo.new source }
+    ensures { HasSown K.problem pool.now result seat.old seat.new todo.old todo.new source }
 {
     let entry = Entry {
         key: source.departure,

@@ -1,6 +1,6 @@
 //! Pushing the fresh entries of a worker.
 ghost use Rattle.ea_pool.specs.Entries.{AreKnown};
-ghost use Rattle.ea_pool.specs.Seats.{account_of, IsSeatOf};
+ghost use Rattle.ea_pool.specs.Seats.{IsSeatOf};
 ghost use Rattle.ea_engine.specs.Equipped.{PushesFresh};
 
 use ea_pool::{Batch, EntryHeap, Pool, PoolSeat};
@@ -18,8 +18,7 @@ pub fn push_fresh<K: Known, E: EntryHeap, R: Rng>(
 ) -> bool
     requires pool_seat { IsSeatOf pool.now pool_seat.old }
     requires known { AreKnown K.is_known fresh.old.items }
-    ensures pool_seat { IsSeatOf pool.now pool_seat.new }
-    ensures fresh { PushesFresh K.is_known (account_of pool_seat.old) (account_of pool_seat.new)
+    ensures { PushesFresh K.is_known pool.now pool_seat.old pool_seat.new
         (R.stream rng.old) (R.stream rng.new) fresh.old.items fresh.new.items result }
 {
     let word = rng.next_u64();

@@ -1,14 +1,14 @@
 //! One turn of a worker.
-ghost use Rattle.std.specs.Prelude.{◌≡◌, ◌≤◌, ◌<◌, ◌+◌, [], true, false};
+ghost use Rattle.std.specs.Prelude.{◌≡◌, ◌<◌, [], true, false};
 ghost use Rattle.arrayvec.specs.ArrayVec.{array_vec_len};
-ghost use Rattle.ea_pool.specs.Seats.{heaps_of, IsSeatOf};
+ghost use Rattle.ea_pool.specs.Seats.{IsSeatOf};
 ghost use Rattle.ea_engine.specs.Equipped.{AreHeld, HoldNothing, MayTurn};
 ghost use Rattle.ea_engine.specs.Grounds.{tables_of};
 ghost use Rattle.ea_engine.specs.Holds.{IsVisit, MayTake, PopsDrawn};
 ghost use Rattle.ea_engine.specs.Looks.{first_heap, second_heap, SawAs};
 ghost use Rattle.ea_engine.specs.Seated.{kit_with};
 ghost use Rattle.ea_engine.specs.Turns.{is_refused};
-ghost use Rattle.ea_engine.specs.Worked.{IsTurn};
+ghost use Rattle.ea_engine.specs.Worked.{IsTurnWithin};
 
 use crate::run::ground::Ground;
 use crate::run::problem::Posed;
@@ -45,8 +45,7 @@ fn pop_drawn<K: Known, E: EntryHeap, R: Rng>(
 ) -> PoppedSome
     requires pool_seat { IsSeatOf pool.now pool_seat.old }
     requires taken { MayTake most taken.old.items }
-    ensures pool_seat { IsSeatOf pool.now pool_seat.new }
-    ensures drawn { PopsDrawn K.is_known E.kind (heaps_of pool.now) most taken.new.items
+    ensures { PopsDrawn K.is_known E.kind pool.now most taken.new.items
         pool_seat.old pool_seat.new (R.stream rng.old) (R.stream rng.new) result }
 {
     let first = rng.next_u64();
@@ -120,10 +119,9 @@ fn pop_and_visit<K: Known + Posed, E: EntryHeap, T: TravelTimes, R: Rng>(
         target batch means.old lists.old }
     requires taken { lists.old.taken.items ≡ [] }
     ensures means { AreHeld K.is_known (tables_of ground.now) means.new lists.new }
-    ensures turn { IsTurn K.problem E.kind batch (tables_of ground.now).pool.heaps
+    ensures turn { IsTurnWithin K.problem E.kind batch (tables_of ground.now).pool.heaps 0
         (kit_with R.stream means.old lists.old)
         (kit_with R.stream means.new lists.new) number result }
-    ensures pushes { result.pushes ≤ result.turn.lowered }
     ensures saw { SawAs result.turn.kind
         (first_heap (tables_of ground.now).pool.heaps (R.stream means.old.rng))
         (second_heap (tables_of ground.now).pool.heaps (R.stream means.old.rng))
@@ -159,10 +157,9 @@ fn visit_next<K: Known + Posed, E: EntryHeap, T: TravelTimes, R: Rng>(
         target batch means.old lists.old }
     requires taken { array_vec_len lists.old.taken < batch }
     ensures means { AreHeld K.is_known (tables_of ground.now) means.new lists.new }
-    ensures turn { IsTurn K.problem E.kind batch (tables_of ground.now).pool.heaps
+    ensures turn { IsTurnWithin K.problem E.kind batch (tables_of ground.now).pool.heaps 0
         (kit_with R.stream means.old lists.old)
         (kit_with R.stream means.new lists.new) number result }
-    ensures pushes { result.pushes ≤ result.turn.lowered }
 {
     if lists.taken.is_empty() {
         return pop_and_visit(ground, target, means, lists, batch, number);
@@ -191,10 +188,9 @@ pub fn take_turn<K: Known + Posed, E: EntryHeap, T: TravelTimes, R: Rng>(
         target batch means.old lists.old }
     requires taken { array_vec_len lists.old.taken < batch }
     ensures means { AreHeld K.is_known (tables_of ground.now) means.new lists.new }
-    ensures turn { IsTurn K.problem E.kind batch (tables_of ground.now).pool.heaps
+    ensures turn { IsTurnWithin K.problem E.kind batch (tables_of ground.now).pool.heaps 1
         (kit_with R.stream means.old lists.old)
         (kit_with R.stream means.new lists.new) number result }
-    ensures pushes { result.pushes ≤ result.turn.lowered + 1 }
 {
     let mut end = visit_next(ground, target, means, lists, batch, number);
     if !is_due(end.turn.kind, lists) {

@@ -57,15 +57,15 @@ returns-in-Lowered-clause-account g c =
     let account = c.requires.account in
     let fell = c.in-Lowered.ensures.lowered in
     record {
-      fit = record { labels = c.offer-offered.ensures.same_table ∙ account.fit.labels; pool = c.sow.ensures.seat };
-      gathered = c.sow.ensures.sown.gathered _ _ (record { from = fell.0; after_is = fell.4 }) account.gathered;
-      nodes_are = c.sow.ensures.sown.opens.nodes_are ∙ account.nodes_are;
+      fit = record { labels = c.offer-offered.ensures.same_table ∙ account.fit.labels; pool = c.sow.ensures.of_pool };
+      gathered = c.sow.ensures.gathered _ _ (record { from = fell.0; after_is = fell.4 }) account.gathered;
+      nodes_are = c.sow.ensures.opens.nodes_are ∙ account.nodes_are;
     }
 
 pub returns-in-Lowered-clause-offered : goal.returns-in-Lowered-clause-offered
 returns-in-Lowered-clause-offered g c =
     let fell = c.in-Lowered.ensures.lowered in
-    let sown = c.sow.ensures.sown in
+    let sown = c.sow.ensures in
     record {
       reached = IsReachedBy-noted _ _ c.args.source.node c.args.source.departure c.args.source.departure (ap (λ x. x.bounds) fell.4) (omega arith);
       bounds = λ b inside. Contains-kept (bound c.args.source.node c.args.source.departure) _ _ b (ap (λ x. x.bounds) fell.4) inside;

@@ -10,8 +10,9 @@ push_as-requires-clause-known g c κs outlives = c.requires.source.is_known
 pub add-requires : goal.add-requires
 add-requires g c = (c.requires.source.node.from_one, c.requires.source.node.to_last)
 
-pub returns-in-Ok-clause-sown : goal.returns-in-Ok-clause-sown
-returns-in-Ok-clause-sown g c = record {
+pub returns-in-Ok : goal.returns-in-Ok
+returns-in-Ok g c = record {
+  of_pool = c.in-Ok.ensures.seat;
   gathered = λ before after fell h. record {
     back = h.back;
     refused = h.refused;
@@ -27,10 +28,11 @@ returns-in-Ok-clause-sown g c = record {
   opens = OpensUpTo-none _;
 }
 
-pub returns-in-Err-clause-sown : goal.returns-in-Err-clause-sown
-returns-in-Err-clause-sown g c =
+pub returns-in-Err : goal.returns-in-Err
+returns-in-Err g c =
     let same = c.in-Err.ensures.refused.1 in
     record {
+      of_pool = c.in-Err.ensures.seat;
       gathered = λ before after fell h.
           let entry = entry_at c.args.source.departure c.args.source.node in
           record {

@@ -4,8 +4,9 @@ use Rattle.std.proofs.lemmas.Bool.Decides.{nat_tests}
 use Rattle.ea_engine.proofs.HoldLemmas.{known_nothing, known_left, progress_left, progress_all, few_left, nothing}
 use Rattle.ea_engine.proofs.worker.push.push_fresh.Goals as goal
 
-pub returns-in-Ok-clause-fresh : goal.returns-in-Ok-clause-fresh
-returns-in-Ok-clause-fresh g c = record {
+pub returns-in-Ok : goal.returns-in-Ok
+returns-in-Ok g c = record {
+  of_pool = c.in-Ok.ensures.seat;
   progress = λ history. progress_all _ _ _ _ history _ _ _ c.in-Ok.ensures.pushed.0 c.in-Ok.ensures.pushed.1 c.next_u64-word.ensures;
   left_known = known_nothing g.K.Known.is_known _ c.in-Ok.ensures.pushed.1;
   none = λ is. c.in-Ok.ensures.pushed.1;
@@ -13,8 +14,9 @@ returns-in-Ok-clause-fresh g c = record {
   few = omega (arith, ap length c.in-Ok.ensures.pushed.1);
 }
 
-pub returns-in-Err-clause-fresh : goal.returns-in-Err-clause-fresh
-returns-in-Err-clause-fresh g c = record {
+pub returns-in-Err : goal.returns-in-Err
+returns-in-Err g c = record {
+  of_pool = c.in-Err.ensures.seat;
   progress = λ history. progress_left _ _ _ _ _ history _ _ _ c.in-Err.ensures.pushed c.next_u64-word.ensures;
   left_known = known_left g.K.Known.is_known _ _ _ _ _ c.in-Err.ensures.pushed c.requires.known;
   none = λ is. nothing _ (grind (arith, nat_tests));

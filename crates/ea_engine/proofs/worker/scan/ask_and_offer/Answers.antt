@@ -105,17 +105,17 @@ push_fresh-requires-clause-known g c κs outlives =
 
 pub returns-then-push_fresh-clause-means : goal.returns-then-push_fresh-clause-means
 returns-then-push_fresh-clause-means g c = record {
-  seats = record { labels = c.offer.ensures.same_table ∙ c.requires.means.are_means.seats.labels; pool = c.push_fresh.ensures.pool_seat };
-  fresh_known = c.push_fresh.ensures.fresh.left_known;
+  seats = record { labels = c.offer.ensures.same_table ∙ c.requires.means.are_means.seats.labels; pool = c.push_fresh.ensures.of_pool };
+  fresh_known = c.push_fresh.ensures.left_known;
 }
 
 pub returns-then-push_fresh-clause-relaxed : goal.returns-then-push_fresh-clause-relaxed
 returns-then-push_fresh-clause-relaxed g c =
     let d = (goal.at.returns-then-push_fresh-clause-relaxed g c).After-arrive-arrival in
     let low = c.in-Lowered.ensures.lowered in
-    let none = c.push_fresh.ensures.fresh.none c.if-push_fresh.true in
+    let none = c.push_fresh.ensures.none c.if-push_fresh.true in
     record {
-      progress = Progress-then _ _ _ [] [] [] 0 1 _ 1 0 _ (Progress-lowered _ _ _ _ [] _ _ c.args.arc.head low.0 c.arrive-arrival.result low.4 c.push.ensures.items) (c.push_fresh.ensures.fresh.progress _) refl refl refl;
+      progress = Progress-then _ _ _ [] [] [] 0 1 _ 1 0 _ (Progress-lowered _ _ _ _ [] _ _ c.args.arc.head low.0 c.arrive-arrival.result low.4 c.push.ensures.items) (c.push_fresh.ensures.progress _) refl refl refl;
       left = omega (arith, ap length none, c.requires.means.room);
       one_push_each = λ is. refl;
       spent = λ arrival answer within. IsReachedBy-noted _ _ c.args.arc.head c.arrive-arrival.result arrival (ap (λ x. x.bounds) low.4) (least g d arrival answer);
@@ -123,17 +123,17 @@ returns-then-push_fresh-clause-relaxed g c =
 
 pub returns-else-push_fresh-clause-means : goal.returns-else-push_fresh-clause-means
 returns-else-push_fresh-clause-means g c = record {
-  seats = record { labels = c.offer.ensures.same_table ∙ c.requires.means.are_means.seats.labels; pool = c.push_fresh.ensures.pool_seat };
-  fresh_known = c.push_fresh.ensures.fresh.left_known;
+  seats = record { labels = c.offer.ensures.same_table ∙ c.requires.means.are_means.seats.labels; pool = c.push_fresh.ensures.of_pool };
+  fresh_known = c.push_fresh.ensures.left_known;
 }
 
 pub returns-else-push_fresh-clause-relaxed : goal.returns-else-push_fresh-clause-relaxed
 returns-else-push_fresh-clause-relaxed g c =
     let d = (goal.at.returns-else-push_fresh-clause-relaxed g c).After-arrive-arrival in
     let low = c.in-Lowered.ensures.lowered in
-    let left = c.push_fresh.ensures.fresh in
+    let left = c.push_fresh.ensures in
     record {
-      progress = Progress-then _ _ _ [] [] [] 0 1 _ 1 0 _ (Progress-lowered _ _ _ _ [] _ _ c.args.arc.head low.0 c.arrive-arrival.result low.4 c.push.ensures.items) (c.push_fresh.ensures.fresh.progress _) refl refl refl;
+      progress = Progress-then _ _ _ [] [] [] 0 1 _ 1 0 _ (Progress-lowered _ _ _ _ [] _ _ c.args.arc.head low.0 c.arrive-arrival.result low.4 c.push.ensures.items) (c.push_fresh.ensures.progress _) refl refl refl;
       left = (left.some c.if-push_fresh.false, omega (arith, left.few, ap length c.push.ensures.items, length-append c.args.fresh.now.items (record { key = c.arrive-arrival.result; node = c.args.arc.head } ∷ []), c.requires.means.room));
       one_push_each = λ is. refl;
       spent = λ arrival answer within. IsReachedBy-noted _ _ c.args.arc.head c.arrive-arrival.result arrival (ap (λ x. x.bounds) low.4) (least g d arrival answer);

@@ -18,8 +18,8 @@ pub returns-in-Empty-clause-means : goal.returns-in-Empty-clause-means
 returns-in-Empty-clause-means g c =
     let held = c.requires.means.are_held in
     record {
-      seats = record { labels = held.seats.labels; pool = c.in-Empty.ensures.pool_seat };
-      taken_known = known_nothing g.K.Known.is_known _ c.in-Empty.ensures.drawn.popped.1;
+      seats = record { labels = held.seats.labels; pool = c.in-Empty.ensures.of_pool };
+      taken_known = known_nothing g.K.Known.is_known _ c.in-Empty.ensures.popped.1;
       fresh_known = held.fresh_known;
     }
 
@@ -27,44 +27,44 @@ pub returns-in-Busy-clause-means : goal.returns-in-Busy-clause-means
 returns-in-Busy-clause-means g c =
     let held = c.requires.means.are_held in
     record {
-      seats = record { labels = held.seats.labels; pool = c.in-Busy.ensures.pool_seat };
-      taken_known = known_nothing g.K.Known.is_known _ c.in-Busy.ensures.drawn.popped.1;
+      seats = record { labels = held.seats.labels; pool = c.in-Busy.ensures.of_pool };
+      taken_known = known_nothing g.K.Known.is_known _ c.in-Busy.ensures.popped.1;
       fresh_known = held.fresh_known;
     }
 
 pub returns-in-Empty-clause-turn : goal.returns-in-Empty-clause-turn
 returns-in-Empty-clause-turn g c =
     let t = c.idle_turn.ensures in
-    let drawn = c.in-Empty.ensures.drawn in
-    IsTurn-idle _ _ _ _ _ _ _ _ _ _ _ _ _
-    drawn.popped.0 c.requires.taken drawn.popped.1 c.requires.means.room drawn.words_are
-    t.number_is (ap is_idle t.kind_is) t.shaped t.lowered t.broken t.pops t.pushes
-    (λ whole. rw t.kind_is (drawn.nothing whole))
+    let drawn = c.in-Empty.ensures in
+    record {
+      turn = IsTurn-idle _ _ _ _ _ _ _ _ _ _ _ _ _
+          drawn.popped.0 c.requires.taken drawn.popped.1 c.requires.means.room drawn.words_are
+          t.number_is (ap is_idle t.kind_is) t.shaped t.lowered t.broken t.pops t.pushes
+          (λ whole. rw t.kind_is (drawn.nothing whole));
+      pushes = omega (arith, t.pushes);
+    }
 
 pub returns-in-Busy-clause-turn : goal.returns-in-Busy-clause-turn
 returns-in-Busy-clause-turn g c =
     let t = c.idle_turn-in-Busy.ensures in
-    let drawn = c.in-Busy.ensures.drawn in
-    IsTurn-idle _ _ _ _ _ _ _ _ _ _ _ _ _
-    drawn.popped.0 c.requires.taken drawn.popped.1 c.requires.means.room drawn.words_are
-    t.number_is (ap is_idle t.kind_is) t.shaped t.lowered t.broken t.pops t.pushes
-    (λ whole. rw t.kind_is (drawn.alone whole))
-
-pub returns-in-Empty-clause-pushes : goal.returns-in-Empty-clause-pushes
-returns-in-Empty-clause-pushes g c = omega (arith, c.idle_turn.ensures.pushes)
-
-pub returns-in-Busy-clause-pushes : goal.returns-in-Busy-clause-pushes
-returns-in-Busy-clause-pushes g c = omega (arith, c.idle_turn-in-Busy.ensures.pushes)
+    let drawn = c.in-Busy.ensures in
+    record {
+      turn = IsTurn-idle _ _ _ _ _ _ _ _ _ _ _ _ _
+          drawn.popped.0 c.requires.taken drawn.popped.1 c.requires.means.room drawn.words_are
+          t.number_is (ap is_idle t.kind_is) t.shaped t.lowered t.broken t.pops t.pushes
+          (λ whole. rw t.kind_is (drawn.alone whole));
+      pushes = omega (arith, t.pushes);
+    }
 
 pub visit_first-end-requires-clause-means : goal.visit_first-end-requires-clause-means
 visit_first-end-requires-clause-means g c κs outlives =
     let may = c.requires.means in
-    let t = c.in-Entries.ensures.drawn.popped in
+    let t = c.in-Entries.ensures.popped in
     record {
       is_ground = may.is_ground;
       target_is = may.target_is;
       are_held = record {
-        seats = record { labels = may.are_held.seats.labels; pool = c.in-Entries.ensures.pool_seat };
+        seats = record { labels = may.are_held.seats.labels; pool = c.in-Entries.ensures.of_pool };
         taken_known = known_turned g.K.Known.is_known _ t.out t.turned t.known_all;
         fresh_known = may.are_held.fresh_known;
       };
@@ -73,26 +73,26 @@ visit_first-end-requires-clause-means g c κs outlives =
     }
 
 pub visit_first-end-requires-clause-taken : goal.visit_first-end-requires-clause-taken
-visit_first-end-requires-clause-taken g c κs outlives = took_some g.K.Known.is_known _ _ _ _ _ _ c.in-Entries.ensures.drawn.popped
+visit_first-end-requires-clause-taken g c κs outlives = took_some g.K.Known.is_known _ _ _ _ _ _ c.in-Entries.ensures.popped
 
 pub returns-in-Entries-clause-means : goal.returns-in-Entries-clause-means
 returns-in-Entries-clause-means g c = c.visit_first-end.ensures.means
 
 pub returns-in-Entries-clause-turn : goal.returns-in-Entries-clause-turn
 returns-in-Entries-clause-turn g c =
-    let drawn = c.in-Entries.ensures.drawn in
-    IsTurn-popped _ _ _ g.K.Known.is_known _ _ _ _ _ _ _ _ _ _ _
-    c.requires.taken drawn.popped drawn.words_are
-    (λ node time known. omega (arith, g.K.Known.within node time known)) c.visit_first-end.ensures.visit
-
-pub returns-in-Entries-clause-pushes : goal.returns-in-Entries-clause-pushes
-returns-in-Entries-clause-pushes g c = c.visit_first-end.ensures.visit.visit.pushes
+    let drawn = c.in-Entries.ensures in
+    record {
+      turn = IsTurn-popped _ _ _ g.K.Known.is_known _ _ _ _ _ _ _ _ _ _ _
+          c.requires.taken drawn.popped drawn.words_are
+          (λ node time known. omega (arith, g.K.Known.within node time known)) c.visit_first-end.ensures.visit;
+      pushes = omega (arith, c.visit_first-end.ensures.visit.visit.pushes);
+    }
 
 pub returns-in-Empty-clause-saw : goal.returns-in-Empty-clause-saw
-returns-in-Empty-clause-saw g c = rw c.idle_turn.ensures.kind_is c.in-Empty.ensures.drawn.looked
+returns-in-Empty-clause-saw g c = rw c.idle_turn.ensures.kind_is c.in-Empty.ensures.looked
 
 pub returns-in-Busy-clause-saw : goal.returns-in-Busy-clause-saw
-returns-in-Busy-clause-saw g c = rw c.idle_turn-in-Busy.ensures.kind_is c.in-Busy.ensures.drawn.looked
+returns-in-Busy-clause-saw g c = rw c.idle_turn-in-Busy.ensures.kind_is c.in-Busy.ensures.looked
 
 pub returns-in-Entries-clause-saw : goal.returns-in-Entries-clause-saw
 returns-in-Entries-clause-saw g c = SawAs-visited c.visit_first-end.result.turn.kind _ _ _ _ _ _ _ c.visit_first-end.ensures.visit.visit.visited

@@ -1,3 +1,4 @@
+use Rattle.std.proofs.Common.{arith}
 use Rattle.ea_engine.proofs.TurnLemmas.{IsTurn-pushed}
 use Rattle.ea_engine.proofs.worker.turn_steps.take_turn.Goals as goal
 
@@ -14,12 +15,21 @@ pub returns-clause-means : goal.returns-clause-means
 returns-clause-means g c =
     let held = c.visit_next-end.ensures.means in
     record {
-      seats = record { labels = held.seats.labels; pool = c.push_fresh.ensures.pool_seat };
+      seats = record { labels = held.seats.labels; pool = c.push_fresh.ensures.of_pool };
       taken_known = held.taken_known;
-      fresh_known = c.push_fresh.ensures.fresh.left_known;
+      fresh_known = c.push_fresh.ensures.left_known;
     }
+
+pub returns-then-not-is_due-clause-turn : goal.returns-then-not-is_due-clause-turn
+returns-then-not-is_due-clause-turn g c =
+    let turn = c.visit_next-end.ensures.turn in
+    record { turn = turn.turn; pushes = omega (arith, turn.pushes) }
 
 pub returns-clause-turn : goal.returns-clause-turn
 returns-clause-turn g c =
     let due = c.is_due.ensures c.if-not-is_due.false in
-    IsTurn-pushed _ _ _ _ _ _ _ _ _ _ _ _ _ _ c.visit_next-end.ensures.turn (c.push_fresh.ensures.fresh.progress _) due.0 due.1 c.push_fresh.ensures.fresh.few
+    let turn = c.visit_next-end.ensures.turn in
+    record {
+      turn = IsTurn-pushed _ _ _ _ _ _ _ _ _ _ _ _ _ _ turn.turn (c.push_fresh.ensures.progress _) due.0 due.1 c.push_fresh.ensures.few;
+      pushes = omega (arith, turn.pushes);
+    }

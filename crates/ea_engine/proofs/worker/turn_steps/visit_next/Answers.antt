@@ -17,7 +17,6 @@ pub visit_taken-requires-clause-taken : goal.visit_taken-requires-clause-taken
 visit_taken-requires-clause-taken g c κs outlives = grind (arith, nat_tests)
 
 pub returns-clause-turn : goal.returns-clause-turn
-returns-clause-turn g c = IsTurn-visited _ _ _ _ _ _ _ c.visit_taken.ensures.visit c.requires.taken
-
-pub returns-clause-pushes : goal.returns-clause-pushes
-returns-clause-pushes g c = c.visit_taken.ensures.visit.visit.pushes
+returns-clause-turn g c =
+    let visit = c.visit_taken.ensures.visit in
+    record { turn = IsTurn-visited _ _ _ _ _ _ _ visit c.requires.taken; pushes = omega (arith, visit.visit.pushes) }

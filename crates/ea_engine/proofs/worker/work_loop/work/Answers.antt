@@ -25,7 +25,7 @@ turns-preserved g c = record {
   tracer = search (rules, of_calls);
   small = omega (arith, c.if-number-pace.true);
   so_far = SoFar-more _ _ _ _ _ _ _ _ _ _ _ _ _ _ _ _ _ _ _ (rw c.turns-test.true at c.turns.invariant.so_far) c.if-idle-pace.true c.if-number-pace.true
-      c.take_turn-end.ensures.turn c.take_turn-end.ensures.pushes c.tracer-flow.ensures c.count.ensures c.idle_after-idle.ensures c.is_last-ended.ensures;
+      c.take_turn-end.ensures.turn.turn c.take_turn-end.ensures.turn.pushes c.tracer-flow.ensures c.count.ensures c.idle_after-idle.ensures c.is_last-ended.ensures;
 }
 
 pub returns-clause-work : goal.returns-clause-work
@@ -61,9 +61,9 @@ count-requires-clause-room g c = SoFar-roomy _ _ _ _ _ _ _ _ _ _ _ _ _ c.turns.i
 
 pub count-requires-clause-end : goal.count-requires-clause-end
 count-requires-clause-end g c = record {
-  lowered = c.take_turn-end.ensures.turn.few;
-  pops = pops_once c.take_turn-end.result.turn.kind _ c.take_turn-end.ensures.turn.pops;
-  pushes = omega (arith, c.take_turn-end.ensures.pushes, c.take_turn-end.ensures.turn.few);
+  lowered = c.take_turn-end.ensures.turn.turn.few;
+  pops = pops_once c.take_turn-end.result.turn.kind _ c.take_turn-end.ensures.turn.turn.pops;
+  pushes = omega (arith, c.take_turn-end.ensures.turn.pushes, c.take_turn-end.ensures.turn.turn.few);
 }
 
 pub idle_after-idle-requires : goal.idle_after-idle-requires
