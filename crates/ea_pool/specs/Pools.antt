@@ -1,6 +1,7 @@
 -- What contracts say of a seat's account, and of a seat during a call.
 use Rattle.std.specs.Prelude.{◌≡◌, ℕ, ◌+◌, ◌<◌, ◌≤◌, List, [], ◌∷◌, ◌++◌, map, Some, None, Contains}
 use mathlib.Core.Option as maybe
+use Rattle.atomic_table.specs.Seated.{TableId}
 use Rattle.ea_base.specs.declared.limits.TheConstants.{HORIZON}
 use Rattle.ea_pool.specs.declared.heap.entry.Entry.{Entry}
 use Rattle.ea_pool.specs.declared.shared.account.Account.{Account}
@@ -11,6 +12,7 @@ use Rattle.ea_pool.specs.States.{held_at}
 use Rattle.ea_pool.specs.Core.{Core}
 use Rattle.ea_pool.specs.Events.{IsReached}
 use Rattle.ea_pool.specs.Plays.{Place}
+use Rattle.ea_pool.specs.Seats.{PoolView}
 
 -- The account is unchanged.
 abbrev pub SameBooks : Account → Account → Type 0
@@ -60,6 +62,22 @@ books a = record { shares = a.shares; pushed = a.pushed; popped = a.popped }
 -- A seat between two calls has a share and holds nothing.
 abbrev pub Rests : Place → Type 0
 Rests m = (m.1 ≡ []) × (m.0.held ≡ None) × (0 < m.0.shares)
+
+-- The seat was made by this pool and rests between two calls.
+pub record IsAtRest (pool : PoolView) (table : TableId) (me : Place) : Type 0 where
+  pub of_pool : table ≡ pool.table
+  pub rests : Rests me
+
+-- The same, with the number of one of the pool's heaps.
+pub record MayTry (pool : PoolView) (heap : ℕ) (table : TableId) (me : Place) : Type 0 where
+  pub of_pool : table ≡ pool.table
+  pub in_pool : heap < pool.heaps
+  pub rests : Rests me
+
+-- The seat's table is the same, and it rests again.
+pub record RestsAgain (before after : TableId) (me : Place) : Type 0 where
+  pub same_table : after ≡ before
+  pub rests : Rests me
 
 -- It holds heap k alone, with entries of which P holds.
 abbrev pub HoldsHeap : Place → ℕ → (List Entry → Type 0) → Type 0

@@ -1,10 +1,13 @@
 -- Predicates on the outcomes of pushes and pops.
-use Rattle.std.specs.Prelude.{Bool, true, false, Result, Ok, Err}
+use Rattle.std.specs.Prelude.{◌≡◌, Bool, true, false, Result, Ok, Err, IfErr, OnOk}
+use Rattle.ea_base.specs.declared.limits.TheConstants.{SHARES}
 use Rattle.ea_pool.specs.declared.heap.entry.Entry.{Entry}
+use Rattle.ea_pool.specs.declared.shared.account.Account.{Account}
 use Rattle.ea_pool.specs.declared.shared.reply.PushRefused.{PushRefused}
 use Rattle.ea_pool.specs.declared.shared.reply.PushRefused.TheVariants.{Busy, OutOfMemory}
 use Rattle.ea_pool.specs.declared.shared.reply.Popped.{Popped}
 use Rattle.ea_pool.specs.declared.shared.reply.Popped.TheVariants as popped
+use Rattle.ea_pool.specs.Pools.{Pushes, SameBooks}
 
 -- The entry that is returned.
 abbrev pub handed_back : PushRefused → Entry
@@ -36,3 +39,10 @@ MatchPopped popped.Busy P Q R = R
 -- P of the entry, if there was one.
 abbrev pub OnPopped : Popped → (Entry → Type 0) → Type 0
 OnPopped reply P = MatchPopped reply P (Unit {0}) (Unit {0})
+
+-- A push of an entry: it is in the account, or it is handed back and the account is unchanged. A seat with all
+-- shares is never busy.
+pub record IsPush (result : Result (Unit {0}) PushRefused) (before after : Account) (entry : Entry) : Type 0 where
+  pub pushed : OnOk result (Pushes before entry after)
+  pub refused : IfErr result (λ refused. (handed_back refused ≡ entry) × SameBooks before after)
+  pub alone : before.shares ≡ SHARES → IfErr result (λ refused. is_busy refused ≡ false)

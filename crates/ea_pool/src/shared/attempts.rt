@@ -1,9 +1,10 @@
 //! Attempts: a heap is taken, used and returned.
-ghost use Rattle.std.specs.Prelude.{◌≡◌, ◌≢◌, ◌*◌, ◌<◌, false, [], ◌∷◌, IfErr, OnOk};
+ghost use Rattle.std.specs.Prelude.{◌≡◌, ◌≢◌, ◌*◌, ◌<◌, [], ◌∷◌};
 ghost use Rattle.std.specs.List.{AllByRecursion};
 ghost use Rattle.ea_pool.specs.Kinds.{Least};
-ghost use Rattle.ea_pool.specs.Pools.{Rests, books, SameBooks, Pushes, Pops, IsLeft, IsLeastLeft, NothingLeft};
-ghost use Rattle.ea_pool.specs.Replies.{handed_back, is_busy, OnBusy, UnlessBusy, MatchPopped, OnPopped};
+ghost use Rattle.ea_pool.specs.Pools.{books, SameBooks, Pops, IsLeft, IsLeastLeft, NothingLeft};
+ghost use Rattle.ea_pool.specs.Pools.{IsAtRest, MayTry, RestsAgain};
+ghost use Rattle.ea_pool.specs.Replies.{IsPush, OnBusy, UnlessBusy, MatchPopped, OnPopped};
 ghost use Rattle.ea_pool.specs.Tries.{LookedAt, WasBusy, MissedHeap, Missed, TookThere, TookAtTry, TookLeast, TookLesser};
 
 use crate::SHARES;
@@ -26,19 +27,13 @@ impl<K: Known, A: Allocator, H: EntryHeap> Pool<K, A, H> {
         heap: usize,
         entry: Entry,
     ) -> Result<(), PushRefused>
-        requires table { (seat.old.table_id ≡ self.now.table) × (heap < self.now.heaps) }
-        requires rests { Rests seat.old.me }
+        requires seat { MayTry self.now heap seat.old.table_id seat.old.me }
         requires known { K.is_known entry.node entry.key }
-        ensures table { seat.new.table_id ≡ seat.old.table_id }
-        ensures rests { Rests seat.new.me }
-        ensures pushed { OnOk result (Pushes (books seat.old.me.0) entry (books seat.new.me.0)) }
-        ensures refused { IfErr result (λ refused.
-            (handed_back refused ≡ entry) × SameBooks (books seat.old.me.0) (books seat.new.me.0)) }
+        ensures seat { RestsAgain seat.old.table_id seat.new.table_id seat.new.me }
+        ensures push { IsPush result (books seat.old.me.0) (books seat.new.me.0) entry }
         ensures missed { OnBusy result (MissedHeap heap seat.old.me.0.seen seat.new.me.0.seen) }
         ensures took { UnlessBusy result
             (TookThere H.kind heap seat.old.me.0.seen seat.new.me.0.last_take) }
-        ensures alone { seat.old.me.0.shares ≡ SHARES
-            → IfErr result (λ refused. is_busy refused ≡ false) }
     {
         let seen = self.look(seat, heap);
         if seen == OUT || !self.take(seat, heap, seen) {
@@ -63,21 +58,15 @@ impl<K: Known, A: Allocator, H: EntryHeap> Pool<K, A, H> {
         word: u64,
         entry: Entry,
     ) -> Result<(), PushRefused>
-        requires table { seat.old.table_id ≡ self.now.table }
-        requires rests { Rests seat.old.me }
+        requires seat { IsAtRest self.now seat.old.table_id seat.old.me }
         requires known { K.is_known entry.node entry.key }
-        ensures table { seat.new.table_id ≡ seat.old.table_id }
-        ensures rests { Rests seat.new.me }
-        ensures pushed { OnOk result (Pushes (books seat.old.me.0) entry (books seat.new.me.0)) }
-        ensures refused { IfErr result (λ refused.
-            (handed_back refused ≡ entry) × SameBooks (books seat.old.me.0) (books seat.new.me.0)) }
+        ensures seat { RestsAgain seat.old.table_id seat.new.table_id seat.new.me }
+        ensures push { IsPush result (books seat.old.me.0) (books seat.new.me.0) entry }
         ensures missed { OnBusy result
             (Missed self.now.heaps word (2 * self.now.heaps)
             seat.old.me.0.seen seat.new.me.0.seen) }
         ensures took { UnlessBusy result
             (TookAtTry H.kind self.now.heaps word seat.old.me.0.seen seat.new.me.0.last_take) }
-        ensures alone { seat.old.me.0.shares ≡ SHARES
-            → IfErr result (λ refused. is_busy refused ≡ false) }
     {
         for attempt in 0..2 * self.heaps {
             let heap = draw_try(self.heaps, word, attempt);
@@ -93,11 +82,9 @@ impl<K: Known, A: Allocator, H: EntryHeap> Pool<K, A, H> {
 impl<K: Known, A: Allocator> Pool<K, A> {
     // Pops from one heap that has an entry, if its word is still `seen`.
     pub(crate) fn pop_at(&self, seat: &mut Seat<LeastHeap<A>>, heap: usize, seen: u64) -> Popped
-        requires table { (seat.old.table_id ≡ self.now.table) × (heap < self.now.heaps) }
-        requires rests { Rests seat.old.me }
+        requires seat { MayTry self.now heap seat.old.table_id seat.old.me }
         requires some { seen < EMPTY }
-        ensures table { seat.new.table_id ≡ seat.old.table_id }
-        ensures rests { Rests seat.new.me }
+        ensures seat { RestsAgain seat.old.table_id seat.new.table_id seat.new.me }
         ensures popped { MatchPopped result
             (λ entry. Pops (books seat.old.me.0) entry (books seat.new.me.0)
             × K.is_known entry.node entry.key × (entry.key ≡ seen))
@@ -126,11 +113,9 @@ impl<K: Known, A: Allocator> Pool<K, A> {
 
     // Inspects heap i, then heap j, and pops from the one with the lesser word.
     pub(crate) fn pop_of_two(&self, seat: &mut Seat<LeastHeap<A>>, i: usize, j: usize) -> Popped
-        requires table { seat.old.table_id ≡ self.now.table }
+        requires seat { IsAtRest self.now seat.old.table_id seat.old.me }
         requires heaps { (i < self.now.heaps) × (j < self.now.heaps) × (i ≢ j) }
-        requires rests { Rests seat.old.me }
-        ensures table { seat.new.table_id ≡ seat.old.table_id }
-        ensures rests { Rests seat.new.me }
+        ensures seat { RestsAgain seat.old.table_id seat.new.table_id seat.new.me }
         ensures popped { MatchPopped result
             (λ entry. Pops (books seat.old.me.0) entry (books seat.new.me.0)
             × K.is_known entry.node entry.key)

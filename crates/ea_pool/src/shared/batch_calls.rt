@@ -6,7 +6,8 @@ ghost use Rattle.ea_pool.specs.Batches.{GoesIn, ComesOut, PushesFrom, PopsSome, 
 ghost use Rattle.ea_pool.specs.Draws.{first_draw, second_draw};
 ghost use Rattle.ea_pool.specs.Entries.{AreKnown};
 ghost use Rattle.ea_pool.specs.Kinds.{Shows};
-ghost use Rattle.ea_pool.specs.Pools.{Rests, books, HoldsHeap, AreInTime, SameBooks, PushesAll, NothingLeft};
+ghost use Rattle.ea_pool.specs.Pools.{books, HoldsHeap, AreInTime, SameBooks, PushesAll, NothingLeft};
+ghost use Rattle.ea_pool.specs.Pools.{IsAtRest, MayTry, RestsAgain};
 ghost use Rattle.ea_pool.specs.Seats.{account_of, heaps_of, IsSeatOf};
 ghost use Rattle.ea_pool.specs.Tries.{LookedAt, WasBusy, MissedHeap, Missed, TookThere, TookAtTry, TookLeast, TookLesser};
 
@@ -61,11 +62,9 @@ impl<K: Known, A: Allocator, H: EntryHeap> Pool<K, A, H> {
         heap: usize,
         batch: &mut Batch,
     ) -> Result<(), PushAllRefused>
-        requires table { (seat.old.table_id ≡ self.now.table) × (heap < self.now.heaps) }
-        requires rests { Rests seat.old.me }
+        requires seat { MayTry self.now heap seat.old.table_id seat.old.me }
         requires known { AreKnown K.is_known batch.old.items }
-        ensures table { seat.new.table_id ≡ seat.old.table_id }
-        ensures rests { Rests seat.new.me }
+        ensures seat { RestsAgain seat.old.table_id seat.new.table_id seat.new.me }
         ensures pushed { MatchPushed result
             (PushesAll (books seat.old.me.0) batch.old.items (books seat.new.me.0)
             × (batch.new.items ≡ []))
@@ -98,11 +97,9 @@ impl<K: Known, A: Allocator, H: EntryHeap> Pool<K, A, H> {
         word: u64,
         batch: &mut Batch,
     ) -> Result<(), PushAllRefused>
-        requires table { seat.old.table_id ≡ self.now.table }
-        requires rests { Rests seat.old.me }
+        requires seat { IsAtRest self.now seat.old.table_id seat.old.me }
         requires known { AreKnown K.is_known batch.old.items }
-        ensures table { seat.new.table_id ≡ seat.old.table_id }
-        ensures rests { Rests seat.new.me }
+        ensures seat { RestsAgain seat.old.table_id seat.new.table_id seat.new.me }
         ensures pushed { MatchPushed result
             (PushesAll (books seat.old.me.0) batch.old.items (books seat.new.me.0)
             × (batch.new.items ≡ []))
@@ -163,12 +160,10 @@ impl<K: Known, A: Allocator, H: EntryHeap> Pool<K, A, H> {
         most: usize,
         batch: &mut Batch,
     ) -> bool
-        requires table { (seat.old.table_id ≡ self.now.table) × (heap < self.now.heaps) }
-        requires rests { Rests seat.old.me }
+        requires seat { MayTry self.now heap seat.old.table_id seat.old.me }
         requires some { seen < EMPTY }
         requires room { (0 < most) × (array_vec_len batch.old + most ≤ MOST_IN_BATCH) }
-        ensures table { seat.new.table_id ≡ seat.old.table_id }
-        ensures rests { Rests seat.new.me }
+        ensures seat { RestsAgain seat.old.table_id seat.new.table_id seat.new.me }
         ensures popped { result ≡ true
             → PopsSome K.is_known H.kind most batch.old.items batch.new.items
             (books seat.old.me.0) (books seat.new.me.0)
@@ -196,12 +191,10 @@ impl<K: Known, A: Allocator, H: EntryHeap> Pool<K, A, H> {
         most: usize,
         batch: &mut Batch,
     ) -> PoppedSome
-        requires table { seat.old.table_id ≡ self.now.table }
+        requires seat { IsAtRest self.now seat.old.table_id seat.old.me }
         requires heaps { (i < self.now.heaps) × (j < self.now.heaps) × (i ≢ j) }
-        requires rests { Rests seat.old.me }
         requires room { (0 < most) × (array_vec_len batch.old + most ≤ MOST_IN_BATCH) }
-        ensures table { seat.new.table_id ≡ seat.old.table_id }
-        ensures rests { Rests seat.new.me }
+        ensures seat { RestsAgain seat.old.table_id seat.new.table_id seat.new.me }
         ensures popped { MatchSome result
             ((pops : PopsSome K.is_known H.kind most batch.old.items batch.new.items
             (books seat.old.me.0) (books seat.new.me.0)

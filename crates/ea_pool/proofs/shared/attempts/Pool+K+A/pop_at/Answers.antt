@@ -1,11 +1,15 @@
+use Rattle.std.proofs.Common.{◌∙◌}
 use Rattle.ea_pool.proofs.Tells.{gives_some, rests_after, pops_least, took_least, all_done, was_left}
 use Rattle.ea_pool.proofs.shared.attempts.Pool+K+A.pop_at.Goals as goal
 
 pub give_popped-requires-clause-held : goal.give_popped-requires-clause-held
 give_popped-requires-clause-held g c = λ _ _. gives_some g.K.Known.is_known c.args.seat.now.me c.take.new.seat.me c.pop_in.new.seat.me c.args.heap c.args.seen c.in-Some-default.entry c.pop_in.result.0 c.pop_in.result.1 (c.take.ensures.taken c.if-not-take.false) c.pop_in.ensures.view c.in-Some-default.is-0 c.pop_in.ensures.moves
 
-pub returns-clause-rests : goal.returns-clause-rests
-returns-clause-rests g c = rests_after g.K.Known.is_known c.args.seat.now.me c.take.new.seat.me c.pop_in.new.seat.me c.give_popped.new.seat.me c.args.heap c.args.seen c.in-Some-default.entry c.pop_in.result.0 c.pop_in.result.1 (c.take.ensures.taken c.if-not-take.false) c.pop_in.ensures.view c.in-Some-default.is-0 c.pop_in.ensures.moves c.give_popped.ensures.popped c.requires.rests.2
+pub returns-clause-seat : goal.returns-clause-seat
+returns-clause-seat g c = record {
+  same_table = c.give_popped.ensures.table ∙ c.pop_in.ensures.table ∙ c.take.ensures.table;
+  rests = rests_after g.K.Known.is_known c.args.seat.now.me c.take.new.seat.me c.pop_in.new.seat.me c.give_popped.new.seat.me c.args.heap c.args.seen c.in-Some-default.entry c.pop_in.result.0 c.pop_in.result.1 (c.take.ensures.taken c.if-not-take.false) c.pop_in.ensures.view c.in-Some-default.is-0 c.pop_in.ensures.moves c.give_popped.ensures.popped c.requires.seat.rests.2;
+}
 
 pub returns-clause-popped : goal.returns-clause-popped
 returns-clause-popped g c = pops_least g.K.Known.is_known c.args.seat.now.me c.take.new.seat.me c.pop_in.new.seat.me c.give_popped.new.seat.me c.args.heap c.args.seen c.in-Some-default.entry c.pop_in.result.0 c.pop_in.result.1 (c.take.ensures.taken c.if-not-take.false) c.pop_in.ensures.view c.in-Some-default.is-0 c.pop_in.ensures.moves c.give_popped.ensures.popped g.K.Known.within

@@ -5,7 +5,7 @@ use Rattle.ea_pool.proofs.Missing.{missed_more}
 use Rattle.ea_pool.proofs.shared.pool.Pool.push_all_from.Goals as goal
 
 pub loop-attempt-init : goal.loop-attempt-init
-loop-attempt-init g c = (refl, c.requires.rests, (refl, refl, refl), refl, (λ whole. refl), refl)
+loop-attempt-init g c = (refl, c.requires.seat.rests, (refl, refl, refl), refl, (λ whole. refl), refl)
 
 pub loop-attempt-preserved : goal.loop-attempt-preserved
 loop-attempt-preserved g c =
@@ -14,8 +14,8 @@ loop-attempt-preserved g c =
     let before = i.2 in
     let now = e.pushed.0 in
     let heap = c.draw_try-heap.ensures.draw ∙ ap (λ p. try_draw p.heaps c.args.word c.loop-attempt.attempt) c.self.view_is in (
-      e.table ∙ i.0,
-      e.rests,
+      e.seat.same_table ∙ i.0,
+      e.seat.rests,
       (now.0 ∙ before.0, now.1 ∙ before.1, now.2 ∙ before.2),
       e.pushed.1 ∙ i.3,
       (λ whole. absurd (e.alone (before.0 ∙ whole))),

@@ -1,25 +1,36 @@
-use Rattle.std.proofs.Common.{ap, ◌∙◌, sym}
+use Rattle.std.proofs.Common.{ap, ◌∙◌, sym, rules}
 use Rattle.ea_pool.specs.Plays.{Place}
 use Rattle.ea_pool.proofs.Tells.{none_out, never_missed, gives_one, pushes_one, rests_one, took_one}
 use Rattle.ea_pool.proofs.shared.pool.Pool.push_at.Goals as goal
 use Rattle.ea_pool.proofs.shared.pool.Pool.push_at.Goals.{then-seen-eq-OUT-via-then-seen-eq-OUT, then-seen-eq-OUT-via-else-seen-eq-OUT+then-not-take}
 
-pub returns-then-seen-eq-OUT-clause-alone : goal.returns-then-seen-eq-OUT-clause-alone
-returns-then-seen-eq-OUT-clause-alone g c = λ whole.
-    let saw = ap (λ (m : Place). m.0) c.look-seen.ensures.saw in
-    elim c.then-seen-eq-OUT.branch [
-      | then-seen-eq-OUT-via-then-seen-eq-OUT w ↦ absurd (none_out g.K.Known.is_known g.H.EntryHeap.kind c.args.self.now.heaps c.args.seat.now.me.0 c.look-seen.new.seat.me.0 c.args.heap c.look-seen.result (c.look-seen.ensures.alone whole) saw c.requires.table.1 w.if-seen-eq-OUT.true)
-      | then-seen-eq-OUT-via-else-seen-eq-OUT+then-not-take w ↦ sym (never_missed c.args.seat.now.me.0 c.look-seen.new.seat.me.0 c.args.heap c.look-seen.result w.take.result saw w.take.ensures.alone whole) ∙ w.if-not-take.true
-    ]
+pub returns-then-seen-eq-OUT-clause-push : goal.returns-then-seen-eq-OUT-clause-push
+returns-then-seen-eq-OUT-clause-push g c = record {
+  pushed = tt;
+  refused = search rules;
+  alone = λ whole.
+      let saw = ap (λ (m : Place). m.0) c.look-seen.ensures.saw in
+      elim c.then-seen-eq-OUT.branch [
+        | then-seen-eq-OUT-via-then-seen-eq-OUT w ↦ absurd (none_out g.K.Known.is_known g.H.EntryHeap.kind c.args.self.now.heaps c.args.seat.now.me.0 c.look-seen.new.seat.me.0 c.args.heap c.look-seen.result (c.look-seen.ensures.alone whole) saw c.requires.seat.in_pool w.if-seen-eq-OUT.true)
+        | then-seen-eq-OUT-via-else-seen-eq-OUT+then-not-take w ↦ sym (never_missed c.args.seat.now.me.0 c.look-seen.new.seat.me.0 c.args.heap c.look-seen.result w.take.result saw w.take.ensures.alone whole) ∙ w.if-not-take.true
+      ];
+}
 
 pub give_pushed-requires-clause-held : goal.give_pushed-requires-clause-held
 give_pushed-requires-clause-held g c = λ _ _. gives_one g.K.Known.is_known g.H.EntryHeap.kind c.look-seen.new.seat.me c.take.new.seat.me c.push_in.new.seat.me c.args.heap c.look-seen.result c.args.entry c.push_in.result.0 c.push_in.result.1 (c.take.ensures.taken c.if-not-take.false) c.push_in.ensures.view c.in-Ok-default.is-0 c.push_in.ensures.moves c.requires.known
 
-pub returns-in-Ok-default-clause-pushed : goal.returns-in-Ok-default-clause-pushed
-returns-in-Ok-default-clause-pushed g c = pushes_one g.K.Known.is_known g.H.EntryHeap.kind c.args.seat.now.me.0 c.look-seen.new.seat.me c.take.new.seat.me c.push_in.new.seat.me c.give_pushed.new.seat.me c.args.heap c.look-seen.result c.args.entry c.push_in.result.0 c.push_in.result.1 (ap (λ (m : Place). m.0) c.look-seen.ensures.saw) (c.take.ensures.taken c.if-not-take.false) c.push_in.ensures.view c.in-Ok-default.is-0 c.push_in.ensures.moves c.give_pushed.ensures.pushed
+pub returns-in-Ok-default-clause-push : goal.returns-in-Ok-default-clause-push
+returns-in-Ok-default-clause-push g c = record {
+  pushed = pushes_one g.K.Known.is_known g.H.EntryHeap.kind c.args.seat.now.me.0 c.look-seen.new.seat.me c.take.new.seat.me c.push_in.new.seat.me c.give_pushed.new.seat.me c.args.heap c.look-seen.result c.args.entry c.push_in.result.0 c.push_in.result.1 (ap (λ (m : Place). m.0) c.look-seen.ensures.saw) (c.take.ensures.taken c.if-not-take.false) c.push_in.ensures.view c.in-Ok-default.is-0 c.push_in.ensures.moves c.give_pushed.ensures.pushed;
+  refused = tt;
+  alone = λ whole. tt;
+}
 
-pub returns-in-Ok-default-clause-rests : goal.returns-in-Ok-default-clause-rests
-returns-in-Ok-default-clause-rests g c = rests_one g.K.Known.is_known g.H.EntryHeap.kind c.args.seat.now.me.0 c.look-seen.new.seat.me c.take.new.seat.me c.push_in.new.seat.me c.give_pushed.new.seat.me c.args.heap c.look-seen.result c.args.entry c.push_in.result.0 c.push_in.result.1 (ap (λ (m : Place). m.0) c.look-seen.ensures.saw) (c.take.ensures.taken c.if-not-take.false) c.push_in.ensures.view c.in-Ok-default.is-0 c.push_in.ensures.moves c.give_pushed.ensures.pushed c.requires.rests.2
+pub returns-in-Ok-default-clause-seat : goal.returns-in-Ok-default-clause-seat
+returns-in-Ok-default-clause-seat g c = record {
+  same_table = c.give_pushed.ensures.table ∙ c.push_in.ensures.table ∙ c.take.ensures.table ∙ c.look-seen.ensures.table;
+  rests = rests_one g.K.Known.is_known g.H.EntryHeap.kind c.args.seat.now.me.0 c.look-seen.new.seat.me c.take.new.seat.me c.push_in.new.seat.me c.give_pushed.new.seat.me c.args.heap c.look-seen.result c.args.entry c.push_in.result.0 c.push_in.result.1 (ap (λ (m : Place). m.0) c.look-seen.ensures.saw) (c.take.ensures.taken c.if-not-take.false) c.push_in.ensures.view c.in-Ok-default.is-0 c.push_in.ensures.moves c.give_pushed.ensures.pushed c.requires.seat.rests.2;
+}
 
 pub returns-in-Ok-default-clause-took : goal.returns-in-Ok-default-clause-took
 returns-in-Ok-default-clause-took g c = took_one g.K.Known.is_known g.H.EntryHeap.kind c.args.seat.now.me.0 c.look-seen.new.seat.me c.take.new.seat.me c.push_in.new.seat.me c.give_pushed.new.seat.me c.args.heap c.look-seen.result c.args.entry c.push_in.result.0 c.push_in.result.1 (ap (λ (m : Place). m.0) c.look-seen.ensures.saw) (c.take.ensures.taken c.if-not-take.false) c.push_in.ensures.view c.in-Ok-default.is-0 c.push_in.ensures.moves c.give_pushed.ensures.pushed

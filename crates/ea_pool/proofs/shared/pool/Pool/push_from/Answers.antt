@@ -5,19 +5,19 @@ use Rattle.ea_pool.proofs.Missing.{missed_more}
 use Rattle.ea_pool.proofs.shared.pool.Pool.push_from.Goals as goal
 
 pub loop-attempt-init : goal.loop-attempt-init
-loop-attempt-init g c = (refl, c.requires.rests, (refl, refl, refl), (λ whole. refl), refl)
+loop-attempt-init g c = (refl, c.requires.seat.rests, (refl, refl, refl), (λ whole. refl), refl)
 
 pub loop-attempt-preserved : goal.loop-attempt-preserved
 loop-attempt-preserved g c =
     let i = c.loop-attempt.invariant in
     let e = rw c.in-Err-Busy.field-0-is at c.in-Err-Busy.ensures in
     let before = i.2 in
-    let now = e.refused.1 in
+    let now = e.push.refused.1 in
     let heap = c.draw_try-heap.ensures.draw ∙ ap (λ p. try_draw p.heaps c.args.word c.loop-attempt.attempt) c.self.view_is in (
-      e.table ∙ i.0,
-      e.rests,
+      e.seat.same_table ∙ i.0,
+      e.seat.rests,
       (now.0 ∙ before.0, now.1 ∙ before.1, now.2 ∙ before.2),
-      (λ whole. let no : true ≡ false = e.alone (before.0 ∙ whole) in cc),
+      (λ whole. let no : true ≡ false = e.push.alone (before.0 ∙ whole) in cc),
       missed_more _ _ _ _ _ _ i.4 (subst (λ h. MissedHeap h c.loop-attempt.seat.me.0.seen c.push_at.new.seat.me.0.seen) heap e.missed),
     )
 
