@@ -1,4 +1,4 @@
--- What a worker stands on: the ground of its problem, its two seats, and the entries that it holds.
+-- What a worker has: the ground of its problem, its two seats, and the entries that it holds.
 use Rattle.std.specs.Prelude.{◌≡◌, ℕ, ◌<◌, ◌≤◌, List, Option, Bool, true, false, [], length}
 use Rattle.rand_core.specs.Stream.{Stream}
 use Rattle.ea_base.specs.declared.limits.TheConstants.{MOST_BATCH}
@@ -45,7 +45,7 @@ pub record OnlyRead (before after : labels.SeatView) : Type 0 where
   pub same_table : after.table ≡ before.table
   pub saw : OnlySaw before.history after.history
 
--- All fresh entries were pushed with one drawn word. None is left exactly if the pool took all.
+-- A push of all fresh entries with one drawn word: none is left exactly if the pool took all.
 pub record PushesFresh (known : ℕ → ℕ → Type 0) (pool : pools.PoolView) (before after : pools.SeatView) (words words' : Stream) (fresh left : List Entry) (took_all : Bool) : Type 0 where
   pub of_pool : pools.IsSeatOf pool after
   pub progress : (history : SeatRecord) → Progress (kit history before.account words [] fresh) (kit history after.account words' [] left) [] 1 0
@@ -60,7 +60,7 @@ module _ {K T E : Type 0} (known : ℕ → ℕ → Type 0) (problem : Problem) (
     pub is_ground : IsGround known problem answers classes ground
     pub seat_fits : seat.table ≡ ground.labels.now.table
 
-  -- The worker stands on the problem's ground and has room for one more fresh entry.
+  -- The ground is the problem's, the means fit it, and there is room for one more fresh entry.
   pub record MayRelax {R : Type 0} (batch : ℕ) (means : Means K R E) (fresh : List Entry) : Type 0 where
     pub is_ground : IsGround known problem answers classes ground
     pub are_means : AreMeans known (tables_of ground) means fresh

@@ -64,7 +64,7 @@ pub record PopsDrawn (known : ℕ → ℕ → Type 0) (kind : HeapKind) (pool : 
   pub nothing : before.account.shares ≡ SHARES → pool.heaps ≡ 2 → MatchSome reply (Unit {0}) (NothingLeft before.account) (Unit {0})
   pub words_are : words' ≡ after_words 2 words
 
--- The same without the taken entries.
+-- What a worker has, without its taken entries.
 abbrev pub without_taken : Kit → Kit
 without_taken k = kit k.labels k.account k.words [] k.fresh
 

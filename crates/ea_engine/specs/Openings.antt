@@ -5,7 +5,8 @@ use Rattle.ea_pool.specs.declared.heap.entry.Entry.{Entry}
 use Rattle.ea_engine.specs.declared.worker.turn.Hand.{Hand}
 use Rattle.ea_engine.specs.Worked.{hand_size}
 
--- At most this many nodes were opened, at least one waits if there was any, and nothing else changed.
+-- At most this many nodes were opened, at least one waits if any waited or was opened, and nothing else
+-- changed.
 pub record OpensUpTo (count : ℕ) (before after : Worklist) : Type 0 where
   pub kept : (node : ℕ) → Contains before.waiting node → Contains after.waiting node
   pub few : length after.waiting ≤ length before.waiting + count
