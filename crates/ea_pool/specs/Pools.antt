@@ -79,6 +79,11 @@ pub record RestsAgain (before after : TableId) (me : Place) : Type 0 where
   pub same_table : after ≡ before
   pub rests : Rests me
 
+-- The seat's table and its memory are the same.
+pub record KeepsMemory (before after : TableId) (a b : SeatMemory) : Type 0 where
+  pub same_table : after ≡ before
+  pub view : b ≡ a
+
 -- It holds heap k alone, with entries of which P holds.
 abbrev pub HoldsHeap : Place → ℕ → (List Entry → Type 0) → Type 0
 HoldsHeap m k P = (es : List Entry) × (m.1 ≡ (k, es) ∷ []) × P es

@@ -7,7 +7,7 @@ ghost use Rattle.ea_pool.specs.Draws.{first_draw, second_draw};
 ghost use Rattle.ea_pool.specs.Entries.{AreKnown};
 ghost use Rattle.ea_pool.specs.Kinds.{Shows};
 ghost use Rattle.ea_pool.specs.Pools.{books, HoldsHeap, AreInTime, SameBooks, PushesAll, NothingLeft};
-ghost use Rattle.ea_pool.specs.Pools.{IsAtRest, MayTry, RestsAgain};
+ghost use Rattle.ea_pool.specs.Pools.{IsAtRest, KeepsMemory, MayTry, RestsAgain};
 ghost use Rattle.ea_pool.specs.Seats.{account_of, heaps_of, IsSeatOf};
 ghost use Rattle.ea_pool.specs.Tries.{LookedAt, WasBusy, MissedHeap, Missed, TookThere, TookAtTry, TookLeast, TookLesser};
 
@@ -27,8 +27,7 @@ impl<K: Known, A: Allocator, H: EntryHeap> Pool<K, A, H> {
     fn push_all_in(&self, seat: &mut Seat<H>, heap: usize, batch: &mut Batch) -> (bool, u64)
         requires table { seat.old.table_id ≡ self.now.table }
         requires held { HoldsHeap seat.old.me heap (λ es. AreInTime (batch.old.items ++ es)) }
-        ensures table { seat.new.table_id ≡ seat.old.table_id }
-        ensures view { seat.new.me.0 ≡ seat.old.me.0 }
+        ensures seat { KeepsMemory seat.old.table_id seat.new.table_id seat.old.me.0 seat.new.me.0 }
         ensures moves { HoldsHeap seat.old.me heap (λ es. HoldsHeap seat.new.me heap (λ left.
             GoesIn batch.old.items batch.new.items es left × Shows H.kind result.1 left)) }
         ensures all { result.0 ≡ true → batch.new.items ≡ [] }
@@ -44,8 +43,7 @@ impl<K: Known, A: Allocator, H: EntryHeap> Pool<K, A, H> {
         requires table { seat.old.table_id ≡ self.now.table }
         requires held { HoldsHeap seat.old.me heap (λ es. AreInTime es) }
         requires room { array_vec_len batch.old + most ≤ MOST_IN_BATCH }
-        ensures table { seat.new.table_id ≡ seat.old.table_id }
-        ensures view { seat.new.me.0 ≡ seat.old.me.0 }
+        ensures seat { KeepsMemory seat.old.table_id seat.new.table_id seat.old.me.0 seat.new.me.0 }
         ensures moves { HoldsHeap seat.old.me heap (λ es. HoldsHeap seat.new.me heap (λ left.
             ComesOut H.kind most batch.old.items batch.new.items es left
             × Shows H.kind result left)) }

@@ -5,7 +5,7 @@ ghost use Rattle.ea_pool.specs.Entries.{SameEntries, HasMore, AreKnown};
 ghost use Rattle.ea_pool.specs.Kinds.{Shows, GivesOne};
 ghost use Rattle.ea_pool.specs.Plays.{Surveys, Took, PutsPushed, PutsPopped};
 ghost use Rattle.ea_pool.specs.States.{saw, forgot, gave};
-ghost use Rattle.ea_pool.specs.Pools.{Rests, HoldsHeap, IsHeld, AreInTime};
+ghost use Rattle.ea_pool.specs.Pools.{Rests, HoldsHeap, IsHeld, AreInTime, KeepsMemory, MayTry};
 
 use crate::SHARES;
 use crate::heap::entry::Entry;
@@ -20,8 +20,7 @@ use std::alloc::Allocator;
 impl<K: Known, A: Allocator, H: EntryHeap> Pool<K, A, H> {
     // Loads the word of a heap.
     pub(crate) fn look(&self, seat: &mut Seat<H>, heap: usize) -> u64
-        requires table { (seat.old.table_id ≡ self.now.table) × (heap < self.now.heaps) }
-        requires rests { Rests seat.old.me }
+        requires seat { MayTry self.now heap seat.old.table_id seat.old.me }
         ensures table { seat.new.table_id ≡ seat.old.table_id }
         ensures saw { seat.new.me ≡ (saw seat.old.me.0 heap result, seat.old.me.1) }
         ensures low { (result ≤ OUT) × (seat.old.me.0.shares ≤ SHARES) }
@@ -58,8 +57,7 @@ impl<K: Known, A: Allocator, H: EntryHeap> Pool<K, A, H> {
     ) -> (Result<(), Entry>, u64)
         requires table { seat.old.table_id ≡ self.now.table }
         requires held { HoldsHeap seat.old.me heap (λ es. AreInTime (entry ∷ es)) }
-        ensures table { seat.new.table_id ≡ seat.old.table_id }
-        ensures view { seat.new.me.0 ≡ seat.old.me.0 }
+        ensures seat { KeepsMemory seat.old.table_id seat.new.table_id seat.old.me.0 seat.new.me.0 }
         ensures moves { HoldsHeap seat.old.me heap (λ es. HoldsHeap seat.new.me heap (λ left.
             MatchResult result.0 (λ _. SameEntries left (entry ∷ es))
             (λ back. (back ≡ entry) × (left ≡ es))
@@ -74,8 +72,7 @@ impl<K: Known, A: Allocator, H: EntryHeap> Pool<K, A, H> {
     pub(crate) fn pop_in(&self, seat: &mut Seat<H>, heap: usize) -> (Option<Entry>, u64)
         requires table { seat.old.table_id ≡ self.now.table }
         requires held { HoldsHeap seat.old.me heap (λ es. AreInTime es) }
-        ensures table { seat.new.table_id ≡ seat.old.table_id }
-        ensures view { seat.new.me.0 ≡ seat.old.me.0 }
+        ensures seat { KeepsMemory seat.old.table_id seat.new.table_id seat.old.me.0 seat.new.me.0 }
         ensures moves { HoldsHeap seat.old.me heap (λ es. HoldsHeap seat.new.me heap (λ left.
             MatchOption result.0 ((es ≡ []) × (left ≡ []))
             (λ entry. GivesOne H.kind entry es left)

@@ -23,41 +23,41 @@ push_all_in-all-requires-clause-held g c κs within =
 pub give_pushed-requires-clause-held : goal.give_pushed-requires-clause-held
 give_pushed-requires-clause-held g c κs within =
     let saw_it = c.look-seen.ensures.saw ∙ ap (λ (l : List (ℕ × List Entry)). (saw c.args.seat.now.me.0 c.args.heap c.look-seen.result, l)) c.requires.seat.rests.0 in
-    gives_batch g.K.Known.is_known g.H.EntryHeap.kind c.args.seat.now.me.0 c.look-seen.new.seat.me c.take.new.seat.me c.args.heap c.look-seen.result c.args.batch.now.items saw_it (c.take.ensures.taken c.if-not-take.false) c.requires.known c.push_all_in-all.new.seat.me c.push_all_in-all.new.batch.items c.push_all_in-all.result.1 c.push_all_in-all.ensures.view c.push_all_in-all.ensures.moves
+    gives_batch g.K.Known.is_known g.H.EntryHeap.kind c.args.seat.now.me.0 c.look-seen.new.seat.me c.take.new.seat.me c.args.heap c.look-seen.result c.args.batch.now.items saw_it (c.take.ensures.taken c.if-not-take.false) c.requires.known c.push_all_in-all.new.seat.me c.push_all_in-all.new.batch.items c.push_all_in-all.result.1 c.push_all_in-all.ensures.seat.view c.push_all_in-all.ensures.moves
 
 pub returns-then-all-clause-seat : goal.returns-then-all-clause-seat
 returns-then-all-clause-seat g c =
     let saw_it = c.look-seen.ensures.saw ∙ ap (λ (l : List (ℕ × List Entry)). (saw c.args.seat.now.me.0 c.args.heap c.look-seen.result, l)) c.requires.seat.rests.0 in
     record {
-      same_table = c.give_pushed.ensures.table ∙ c.push_all_in-all.ensures.table ∙ c.take.ensures.table ∙ c.look-seen.ensures.table;
-      rests = rests_batch g.K.Known.is_known g.H.EntryHeap.kind c.args.seat.now.me.0 c.look-seen.new.seat.me c.take.new.seat.me c.args.heap c.look-seen.result c.args.batch.now.items saw_it (c.take.ensures.taken c.if-not-take.false) c.requires.known c.push_all_in-all.new.seat.me c.push_all_in-all.new.batch.items c.push_all_in-all.result.1 c.push_all_in-all.ensures.view c.push_all_in-all.ensures.moves c.give_pushed.new.seat.me c.give_pushed.ensures.pushed c.requires.seat.rests.2;
+      same_table = c.give_pushed.ensures.table ∙ c.push_all_in-all.ensures.seat.same_table ∙ c.take.ensures.table ∙ c.look-seen.ensures.table;
+      rests = rests_batch g.K.Known.is_known g.H.EntryHeap.kind c.args.seat.now.me.0 c.look-seen.new.seat.me c.take.new.seat.me c.args.heap c.look-seen.result c.args.batch.now.items saw_it (c.take.ensures.taken c.if-not-take.false) c.requires.known c.push_all_in-all.new.seat.me c.push_all_in-all.new.batch.items c.push_all_in-all.result.1 c.push_all_in-all.ensures.seat.view c.push_all_in-all.ensures.moves c.give_pushed.new.seat.me c.give_pushed.ensures.pushed c.requires.seat.rests.2;
     }
 
 pub returns-then-all-clause-pushed : goal.returns-then-all-clause-pushed
 returns-then-all-clause-pushed g c =
     let none = c.push_all_in-all.ensures.all c.if-all.true in
     let saw_it = c.look-seen.ensures.saw ∙ ap (λ (l : List (ℕ × List Entry)). (saw c.args.seat.now.me.0 c.args.heap c.look-seen.result, l)) c.requires.seat.rests.0 in
-    (pushes_whole g.K.Known.is_known g.H.EntryHeap.kind c.args.seat.now.me.0 c.look-seen.new.seat.me c.take.new.seat.me c.args.heap c.look-seen.result c.args.batch.now.items saw_it (c.take.ensures.taken c.if-not-take.false) c.requires.known c.push_all_in-all.new.seat.me c.push_all_in-all.new.batch.items c.push_all_in-all.result.1 c.push_all_in-all.ensures.view c.push_all_in-all.ensures.moves c.give_pushed.new.seat.me c.give_pushed.ensures.pushed none, none)
+    (pushes_whole g.K.Known.is_known g.H.EntryHeap.kind c.args.seat.now.me.0 c.look-seen.new.seat.me c.take.new.seat.me c.args.heap c.look-seen.result c.args.batch.now.items saw_it (c.take.ensures.taken c.if-not-take.false) c.requires.known c.push_all_in-all.new.seat.me c.push_all_in-all.new.batch.items c.push_all_in-all.result.1 c.push_all_in-all.ensures.seat.view c.push_all_in-all.ensures.moves c.give_pushed.new.seat.me c.give_pushed.ensures.pushed none, none)
 
 pub returns-then-all-clause-tried : goal.returns-then-all-clause-tried
 returns-then-all-clause-tried g c =
     let saw_it = c.look-seen.ensures.saw ∙ ap (λ (l : List (ℕ × List Entry)). (saw c.args.seat.now.me.0 c.args.heap c.look-seen.result, l)) c.requires.seat.rests.0 in
-    took_batch g.K.Known.is_known g.H.EntryHeap.kind c.args.seat.now.me.0 c.look-seen.new.seat.me c.take.new.seat.me c.args.heap c.look-seen.result c.args.batch.now.items saw_it (c.take.ensures.taken c.if-not-take.false) c.requires.known c.push_all_in-all.new.seat.me c.push_all_in-all.new.batch.items c.push_all_in-all.result.1 c.push_all_in-all.ensures.view c.push_all_in-all.ensures.moves c.give_pushed.new.seat.me c.give_pushed.ensures.pushed
+    took_batch g.K.Known.is_known g.H.EntryHeap.kind c.args.seat.now.me.0 c.look-seen.new.seat.me c.take.new.seat.me c.args.heap c.look-seen.result c.args.batch.now.items saw_it (c.take.ensures.taken c.if-not-take.false) c.requires.known c.push_all_in-all.new.seat.me c.push_all_in-all.new.batch.items c.push_all_in-all.result.1 c.push_all_in-all.ensures.seat.view c.push_all_in-all.ensures.moves c.give_pushed.new.seat.me c.give_pushed.ensures.pushed
 
 pub returns-else-all-clause-seat : goal.returns-else-all-clause-seat
 returns-else-all-clause-seat g c =
     let saw_it = c.look-seen.ensures.saw ∙ ap (λ (l : List (ℕ × List Entry)). (saw c.args.seat.now.me.0 c.args.heap c.look-seen.result, l)) c.requires.seat.rests.0 in
     record {
-      same_table = c.give_pushed.ensures.table ∙ c.push_all_in-all.ensures.table ∙ c.take.ensures.table ∙ c.look-seen.ensures.table;
-      rests = rests_batch g.K.Known.is_known g.H.EntryHeap.kind c.args.seat.now.me.0 c.look-seen.new.seat.me c.take.new.seat.me c.args.heap c.look-seen.result c.args.batch.now.items saw_it (c.take.ensures.taken c.if-not-take.false) c.requires.known c.push_all_in-all.new.seat.me c.push_all_in-all.new.batch.items c.push_all_in-all.result.1 c.push_all_in-all.ensures.view c.push_all_in-all.ensures.moves c.give_pushed.new.seat.me c.give_pushed.ensures.pushed c.requires.seat.rests.2;
+      same_table = c.give_pushed.ensures.table ∙ c.push_all_in-all.ensures.seat.same_table ∙ c.take.ensures.table ∙ c.look-seen.ensures.table;
+      rests = rests_batch g.K.Known.is_known g.H.EntryHeap.kind c.args.seat.now.me.0 c.look-seen.new.seat.me c.take.new.seat.me c.args.heap c.look-seen.result c.args.batch.now.items saw_it (c.take.ensures.taken c.if-not-take.false) c.requires.known c.push_all_in-all.new.seat.me c.push_all_in-all.new.batch.items c.push_all_in-all.result.1 c.push_all_in-all.ensures.seat.view c.push_all_in-all.ensures.moves c.give_pushed.new.seat.me c.give_pushed.ensures.pushed c.requires.seat.rests.2;
     }
 
 pub returns-else-all-clause-pushed : goal.returns-else-all-clause-pushed
 returns-else-all-clause-pushed g c =
     let saw_it = c.look-seen.ensures.saw ∙ ap (λ (l : List (ℕ × List Entry)). (saw c.args.seat.now.me.0 c.args.heap c.look-seen.result, l)) c.requires.seat.rests.0 in
-    pushes_batch g.K.Known.is_known g.H.EntryHeap.kind c.args.seat.now.me.0 c.look-seen.new.seat.me c.take.new.seat.me c.args.heap c.look-seen.result c.args.batch.now.items saw_it (c.take.ensures.taken c.if-not-take.false) c.requires.known c.push_all_in-all.new.seat.me c.push_all_in-all.new.batch.items c.push_all_in-all.result.1 c.push_all_in-all.ensures.view c.push_all_in-all.ensures.moves c.give_pushed.new.seat.me c.give_pushed.ensures.pushed (omega (arith, c.push_all_in-all.ensures.some c.if-all.false))
+    pushes_batch g.K.Known.is_known g.H.EntryHeap.kind c.args.seat.now.me.0 c.look-seen.new.seat.me c.take.new.seat.me c.args.heap c.look-seen.result c.args.batch.now.items saw_it (c.take.ensures.taken c.if-not-take.false) c.requires.known c.push_all_in-all.new.seat.me c.push_all_in-all.new.batch.items c.push_all_in-all.result.1 c.push_all_in-all.ensures.seat.view c.push_all_in-all.ensures.moves c.give_pushed.new.seat.me c.give_pushed.ensures.pushed (omega (arith, c.push_all_in-all.ensures.some c.if-all.false))
 
 pub returns-else-all-clause-tried : goal.returns-else-all-clause-tried
 returns-else-all-clause-tried g c =
     let saw_it = c.look-seen.ensures.saw ∙ ap (λ (l : List (ℕ × List Entry)). (saw c.args.seat.now.me.0 c.args.heap c.look-seen.result, l)) c.requires.seat.rests.0 in
-    took_batch g.K.Known.is_known g.H.EntryHeap.kind c.args.seat.now.me.0 c.look-seen.new.seat.me c.take.new.seat.me c.args.heap c.look-seen.result c.args.batch.now.items saw_it (c.take.ensures.taken c.if-not-take.false) c.requires.known c.push_all_in-all.new.seat.me c.push_all_in-all.new.batch.items c.push_all_in-all.result.1 c.push_all_in-all.ensures.view c.push_all_in-all.ensures.moves c.give_pushed.new.seat.me c.give_pushed.ensures.pushed
+    took_batch g.K.Known.is_known g.H.EntryHeap.kind c.args.seat.now.me.0 c.look-seen.new.seat.me c.take.new.seat.me c.args.heap c.look-seen.result c.args.batch.now.items saw_it (c.take.ensures.taken c.if-not-take.false) c.requires.known c.push_all_in-all.new.seat.me c.push_all_in-all.new.batch.items c.push_all_in-all.result.1 c.push_all_in-all.ensures.seat.view c.push_all_in-all.ensures.moves c.give_pushed.new.seat.me c.give_pushed.ensures.pushed

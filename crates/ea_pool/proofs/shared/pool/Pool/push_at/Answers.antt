@@ -17,20 +17,20 @@ returns-then-seen-eq-OUT-clause-push g c = record {
 }
 
 pub give_pushed-requires-clause-held : goal.give_pushed-requires-clause-held
-give_pushed-requires-clause-held g c = λ _ _. gives_one g.K.Known.is_known g.H.EntryHeap.kind c.look-seen.new.seat.me c.take.new.seat.me c.push_in.new.seat.me c.args.heap c.look-seen.result c.args.entry c.push_in.result.0 c.push_in.result.1 (c.take.ensures.taken c.if-not-take.false) c.push_in.ensures.view c.in-Ok-default.is-0 c.push_in.ensures.moves c.requires.known
+give_pushed-requires-clause-held g c = λ _ _. gives_one g.K.Known.is_known g.H.EntryHeap.kind c.look-seen.new.seat.me c.take.new.seat.me c.push_in.new.seat.me c.args.heap c.look-seen.result c.args.entry c.push_in.result.0 c.push_in.result.1 (c.take.ensures.taken c.if-not-take.false) c.push_in.ensures.seat.view c.in-Ok-default.is-0 c.push_in.ensures.moves c.requires.known
 
 pub returns-in-Ok-default-clause-push : goal.returns-in-Ok-default-clause-push
 returns-in-Ok-default-clause-push g c = record {
-  pushed = pushes_one g.K.Known.is_known g.H.EntryHeap.kind c.args.seat.now.me.0 c.look-seen.new.seat.me c.take.new.seat.me c.push_in.new.seat.me c.give_pushed.new.seat.me c.args.heap c.look-seen.result c.args.entry c.push_in.result.0 c.push_in.result.1 (ap (λ (m : Place). m.0) c.look-seen.ensures.saw) (c.take.ensures.taken c.if-not-take.false) c.push_in.ensures.view c.in-Ok-default.is-0 c.push_in.ensures.moves c.give_pushed.ensures.pushed;
+  pushed = pushes_one g.K.Known.is_known g.H.EntryHeap.kind c.args.seat.now.me.0 c.look-seen.new.seat.me c.take.new.seat.me c.push_in.new.seat.me c.give_pushed.new.seat.me c.args.heap c.look-seen.result c.args.entry c.push_in.result.0 c.push_in.result.1 (ap (λ (m : Place). m.0) c.look-seen.ensures.saw) (c.take.ensures.taken c.if-not-take.false) c.push_in.ensures.seat.view c.in-Ok-default.is-0 c.push_in.ensures.moves c.give_pushed.ensures.pushed;
   refused = tt;
   alone = λ whole. tt;
 }
 
 pub returns-in-Ok-default-clause-seat : goal.returns-in-Ok-default-clause-seat
 returns-in-Ok-default-clause-seat g c = record {
-  same_table = c.give_pushed.ensures.table ∙ c.push_in.ensures.table ∙ c.take.ensures.table ∙ c.look-seen.ensures.table;
-  rests = rests_one g.K.Known.is_known g.H.EntryHeap.kind c.args.seat.now.me.0 c.look-seen.new.seat.me c.take.new.seat.me c.push_in.new.seat.me c.give_pushed.new.seat.me c.args.heap c.look-seen.result c.args.entry c.push_in.result.0 c.push_in.result.1 (ap (λ (m : Place). m.0) c.look-seen.ensures.saw) (c.take.ensures.taken c.if-not-take.false) c.push_in.ensures.view c.in-Ok-default.is-0 c.push_in.ensures.moves c.give_pushed.ensures.pushed c.requires.seat.rests.2;
+  same_table = c.give_pushed.ensures.table ∙ c.push_in.ensures.seat.same_table ∙ c.take.ensures.table ∙ c.look-seen.ensures.table;
+  rests = rests_one g.K.Known.is_known g.H.EntryHeap.kind c.args.seat.now.me.0 c.look-seen.new.seat.me c.take.new.seat.me c.push_in.new.seat.me c.give_pushed.new.seat.me c.args.heap c.look-seen.result c.args.entry c.push_in.result.0 c.push_in.result.1 (ap (λ (m : Place). m.0) c.look-seen.ensures.saw) (c.take.ensures.taken c.if-not-take.false) c.push_in.ensures.seat.view c.in-Ok-default.is-0 c.push_in.ensures.moves c.give_pushed.ensures.pushed c.requires.seat.rests.2;
 }
 
 pub returns-in-Ok-default-clause-took : goal.returns-in-Ok-default-clause-took
-returns-in-Ok-default-clause-took g c = took_one g.K.Known.is_known g.H.EntryHeap.kind c.args.seat.now.me.0 c.look-seen.new.seat.me c.take.new.seat.me c.push_in.new.seat.me c.give_pushed.new.seat.me c.args.heap c.look-seen.result c.args.entry c.push_in.result.0 c.push_in.result.1 (ap (λ (m : Place). m.0) c.look-seen.ensures.saw) (c.take.ensures.taken c.if-not-take.false) c.push_in.ensures.view c.in-Ok-default.is-0 c.push_in.ensures.moves c.give_pushed.ensures.pushed
+returns-in-Ok-default-clause-took g c = took_one g.K.Known.is_known g.H.EntryHeap.kind c.args.seat.now.me.0 c.look-seen.new.seat.me c.take.new.seat.me c.push_in.new.seat.me c.give_pushed.new.seat.me c.args.heap c.look-seen.result c.args.entry c.push_in.result.0 c.push_in.result.1 (ap (λ (m : Place). m.0) c.look-seen.ensures.saw) (c.take.ensures.taken c.if-not-take.false) c.push_in.ensures.seat.view c.in-Ok-default.is-0 c.push_in.ensures.moves c.give_pushed.ensures.pushed
