@@ -1,4 +1,4 @@
--- Where a run stands between two problems.
+-- What a run has written and may use, between two problems.
 use Rattle.std.specs.Prelude.{◌≤◌, ◌<◌, ◌+◌, ◌*◌, ◌^◌, ℕ, Bool, IfSome, Option, length}
 use Rattle.ea_base.specs.declared.limits.TheConstants.{MOST_NODES, MOST_STARTS}
 use Rattle.ea_batch.specs.Solved.{AreAidsOn, Serves}

@@ -1,5 +1,5 @@
 //! A run up to its least arrivals, with the problem and the known pairs named by a type.
-ghost use Rattle.std.specs.Prelude.{◌≡◌, true, IfOk};
+ghost use Rattle.std.specs.Prelude.{◌≡◌, ◌<◌, false, true, IfOk};
 ghost use Rattle.ea_engine.specs.Problems.{IsNamedProblem};
 ghost use Rattle.ea_engine.specs.Runs.{IsCrew, IsEnded};
 
@@ -70,6 +70,7 @@ fn run_with<
 fn takes_least(settings: Settings) -> bool
     ensures one { settings.batch ≡ 1 → result ≡ true }
     ensures alone { settings.workers ≡ 1 → result ≡ true }
+    ensures several { 1 < settings.batch → 1 < settings.workers → result ≡ false }
 {
     settings.batch == 1 || settings.workers == 1
 }
