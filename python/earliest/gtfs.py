@@ -57,8 +57,9 @@ def trips_that_run(feed, asked, summary):
             raise Refused(f"{feed.path} has no route {name!r}")
     for kind in sorted(types - set(kinds.values())):
         raise Refused(f"{feed.path} has no route of the route_type {kind}; it has {', '.join(sorted(set(kinds.values())))}")
-    numbers, trips, blocks = {}, [], 0
+    numbers, trips, blocks, listed = {}, [], 0, set()
     for line, (trip, route, service, sign, block) in feed.rows("trips.txt"):
+        listed.add(trip)
         if service not in runs:
             summary.leave("trips that don't run on the days asked")
             continue
@@ -77,7 +78,7 @@ def trips_that_run(feed, asked, summary):
         raise Refused(f"no trip of {feed.path} that is asked for runs on {asked.day}{when(feed, asked)}")
     if blocks:
         summary.note("who stays seated where a vehicle goes on as another trip (block_id) is taken as changing")
-    return numbers, trips, names
+    return numbers, trips, names, listed
 
 
 def clocks_told(feed, summary):
@@ -92,10 +93,12 @@ def clocks_told(feed, summary):
             summary.leave(f"time zones of agencies beside {first}: their times are taken as of {first}", f"{zone}: {zones[zone]}")
 
 
-def frequencies_of(feed, numbers, summary):
+def frequencies_of(feed, numbers, listed, summary):
     found, count = {}, 0
     for line, (trip, start, end, headway, exact) in feed.rows("frequencies.txt"):
         if trip not in numbers:
+            if trip not in listed:
+                summary.leave("headways of a trip that trips.txt doesn't have", trip)
             continue
         first, last = (feed.seconds("frequencies.txt", line, column, text) for column, text in (("start_time", start), ("end_time", end)))
         if first < 0 or last <= first:
@@ -150,10 +153,10 @@ def convert(path, day, name, **options):
     with writing.Outputs(name) as out:
         clocks_told(feed, summary)
         stops = Stops(feed, asked.box, summary)
-        numbers, trips, names = trips_that_run(feed, asked, summary)
-        headways = frequencies_of(feed, numbers, summary)
+        numbers, trips, names, listed = trips_that_run(feed, asked, summary)
+        headways = frequencies_of(feed, numbers, listed, summary)
         transfers = Transfers(feed, stops, asked, summary)
-        calls = Calls(feed, numbers, stops, summary)
+        calls = Calls(feed, numbers, listed, stops, summary)
         table = Timetable([trip for trip, _, _, _ in trips], stops, transfers, summary)
         for number, (trip, route, _, days) in enumerate(trips):
             found = calls.of(number, trip)

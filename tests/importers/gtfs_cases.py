@@ -609,16 +609,19 @@ def told_of_tables(room):
     files["routes.txt"] += "1,again,3\r\n"
     files["calendar.txt"] += "all,0,0,0,0,0,0,1,20260101,20261231\r\nback,1,1,1,1,1,1,1,20261231,20260101\r\n"
     files["stops.txt"] = files["stops.txt"].replace("stop_lon", "stop_lon,location_type") + "E1,Entrance,47,8,2\r\n"
+    calls = files["stop_times.txt"].split("\r\n")
+    files["stop_times.txt"] += calls[1].replace("a,", "ghost,", 1) + "\r\n" + calls[2].replace("a,", "ghost,", 1) + "\r\n"
+    files["frequencies.txt"] = "trip_id,start_time,end_time,headway_secs\r\nshade,07:00:00,08:00:00,600\r\n"
     put(room, "odd", files)
     told = good("gtfs", os.path.join(room, "odd"), "20261123", os.path.join(room, "net"))
     for part in ("times are those of Europe/Berlin", "1 time zones of agencies beside Europe/Berlin: their times are taken as of Europe/Berlin (Europe/London: Y)", "1 lines of routes.txt for a route that was there before", "1 further lines of calendar.txt for a service",
                  "1 services that calendar_dates.txt both adds and removes on a day asked; the last line holds (all on 20261123)", "1 services that end before they begin (back)", "1 entrances, crossings and boarding areas of stations, not looked at (E1)",
-                 "1 trips without calls in stop_times.txt (empty)", "1 least times of transfers that aren't of type 2"):
+                 "1 trips without calls in stop_times.txt (empty)", "2 calls of a trip that trips.txt doesn't have (ghost, ghost)", "1 headways of a trip that trips.txt doesn't have (shade)", "1 least times of transfers that aren't of type 2"):
         yield f"told: {part}", summary_has(told, part), True
     yield "the first line of a route holds", table(room, "net.trips.csv")[0]["line"], "line 1"
     put(room, "none", {**feed.files(), "stop_times.txt": feed.files()["stop_times.txt"].replace("a,7:", "b,7:")})
     *told, reason = refused("gtfs", room, os.path.join(room, "none"), "20261123", os.path.join(room, "out"))
-    yield "refused: no trip with calls, and why", (*told, "left out were 2 trips without calls in stop_times.txt" in reason), (True, True, [], True)
+    yield "refused: no trip with calls, and why", (*told, all(part in reason for part in ("2 trips without calls in stop_times.txt", "3 calls of a trip that trips.txt doesn't have"))), (True, True, [], True)
 
 
 def hostile(room):

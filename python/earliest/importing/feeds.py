@@ -265,7 +265,8 @@ class Stops:
 class Calls:
     """The calls of trips that run: by trip, in the order of their sequence, with times filled in."""
 
-    def __init__(self, feed, trips, stops, summary):
+    def __init__(self, feed, trips, listed, stops, summary):
+        """`trips` numbers those that run, `listed` are all of trips.txt."""
         self.feed, self.trips, self.stops, self.summary = feed, trips, stops, summary
         self.trip, self.sequence, self.stop = array("i"), array("q"), array("i")
         self.arrival, self.departure, self.bans, self.distance = array("i"), array("i"), bytearray(), array("d")
@@ -273,6 +274,8 @@ class Calls:
         for line, (trip, stop, sequence, arrival, departure, pickup, drop, distance, on, off) in feed.rows("stop_times.txt"):
             number = trips.get(trip)
             if number is None:
+                if trip not in listed:
+                    summary.leave("calls of a trip that trips.txt doesn't have", trip)
                 continue
             if stop not in stops.number:
                 unknown.add(number)
