@@ -211,14 +211,15 @@ fn each_source_of_rank_errors_is_told(rt: HostRuntime) {
         },
     };
     let told = Told {
-        calls: 1,
-        done: 1,
-        of: 1,
+        calls: 3,
+        done: 3,
+        of: 3,
         ..NOTHING
     };
-    let one = b"p aux sp ss 1\ns 1\n";
+    // From node 3 node 4 is pushed at 9 and at 4.
+    let ranks = b"s 1 0\nr 6 0 0\ns 2 0\nr 2 0 0\ns 3 0\nr 4 0 0\n";
     assert_eq!(rt;
-        told_of(&rt, &rt, &command, (one, None), b"s 1 0\nr 6 0 0\n"),
+        told_of(&rt, &rt, &command, (THREE, None), ranks),
         (told, true)
     );
 }
