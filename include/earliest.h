@@ -138,7 +138,7 @@ uint32_t earliest_search_arrivals(earliest_search *search, uint64_t *out, size_t
 uint32_t earliest_search_walk(earliest_search *search, uint32_t node, uint32_t *out, size_t room, uint64_t *count);
 /* Searches from these nodes, each departing at its time, as one problem, for the nodes of `asked` alone, in any order, each as often as one
  * likes: it ends when all of them are settled, so near nodes take a fraction of earliest_search_from. The first such query of a search takes
- * another 20 bytes for each node of the road. It finds no walks, and leaves what the calls above read as it was. Refusals as for
+ * another 16 bytes for each node of the road. It finds no walks, and leaves what the calls above read as it was. Refusals as for
  * earliest_search_from, and EARLIEST_NO_SUCH_NODE for an asked node; after 13 earliest_search_answers may find that nothing was asked. */
 uint32_t earliest_search_asking(earliest_search *search, const uint32_t *nodes, size_t node_count, const uint64_t *departures, size_t departure_count, const uint32_t *asked, size_t asked_count);
 /* The earliest arrivals at the nodes of the last such query: `count` is their number, and each stands at its place in `asked`;

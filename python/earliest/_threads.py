@@ -15,8 +15,8 @@ MOST = 16
 """The most threads that search by default."""
 CHUNK = 64
 """How many pairs a thread takes at once."""
-FEW, FEWER = 16, 64
-"""Up to so many nodes, or up to this part of the network's, are asked for by searches that end when they are settled."""
+FEW, PART = 16, 64
+"""Up to `FEW` nodes, or one in `PART` of the road's, are asked for by searches that end when they are settled; as in `earliest run --nodes`."""
 
 
 def processors() -> int:
@@ -79,8 +79,8 @@ def by_threads(parts: int, threads: Optional[int], worker: Callable[[], Callable
 
 
 def are_few(chosen: int, nodes: int) -> bool:
-    """Whether searches for so many chosen nodes do better to end when these are settled."""
-    return chosen <= max(FEW, nodes // FEWER)
+    """Whether searches for this number of chosen nodes end when these are settled."""
+    return chosen <= max(FEW, nodes // PART)
 
 
 def rows(road: Any, sources: Any, departures: Any, picks: Any, threads: Optional[int]):

@@ -3,6 +3,7 @@ import concurrent.futures
 import multiprocessing
 import os
 import pickle
+import re
 import subprocess
 import sys
 import tempfile
@@ -12,10 +13,17 @@ import unittest
 
 import earliest
 import plain
+from earliest._failures import test
+from earliest._library import library
+from earliest._numbers import address, filled
 from optional import joblib, needs
 from test_engine import Case, flat
 
 NETWORK = plain.network(11, 60, 200)
+
+
+NODE, TIME = filled("I", 7, 1), filled("Q", 0, 1)
+"""A source at its departure, and an asked node."""
 
 
 class Large:
@@ -198,6 +206,38 @@ class OneRoad(Case):
         for near, whole in zip(found[False], found[True]):
             self.assertEqual(flat(near), [int(whole[node - 1]) for node in nodes])
         self.assertLess(10 * times[False], times[True])
+
+    def test_which_nodes_are_few(self):
+        """They are those of the program, and the docstring names them."""
+        from earliest import _threads
+
+        with open(os.path.join(plain.ROOT, "crates", "ea_batch", "src", "searching.rt"), encoding="utf-8") as file:
+            text = file.read()
+        few, part = (int(re.search(rf"pub const {name}: usize = (\d+);", text)[1]) for name in ("FEW", "PART"))
+        self.assertEqual((few, part), (_threads.FEW, _threads.PART))
+        self.assertIn(f"up to {few} of", earliest.Road.arrivals.__doc__)
+        self.assertIn(f"up to a {part}th of", earliest.Road.arrivals.__doc__)
+        at = [(nodes, chosen) for nodes in (1, 1023, 1024, 1088, 6400) for chosen in (0, 16, 17, 100, 101) if _threads.are_few(chosen, nodes)]
+        self.assertEqual(at, [(nodes, chosen) for nodes, most in ((1, 16), (1023, 16), (1024, 16), (1088, 17), (6400, 100)) for chosen in (0, 16, 17, 100, 101) if chosen <= most])
+
+    @unittest.skipUnless(os.path.exists("/proc/self/statm"), "the system tells no memory")
+    def test_memory_of_asked_nodes(self):
+        """A search takes the 16 bytes a node that the header names when it is first asked for some nodes, and no more for the next."""
+        road, searches = Large.road(), []
+
+        def memory():
+            with open("/proc/self/statm", encoding="ascii") as file:
+                return int(file.read().split()[1]) * os.sysconf("SC_PAGE_SIZE")
+
+        road.arrivals([1], nodes=[2], threads=1)
+        for _ in range(4):
+            searches.append(road.searcher(walks=False))
+        begun, grown = memory(), []
+        for search in searches:
+            for _ in range(3):
+                test(library().earliest_search_asking(search._handle, address(NODE), 1, address(TIME), 1, address(NODE), 1))
+            grown.append(memory() - begun)
+        self.assertLess(grown[-1], 4 * 20 * road.nodes)
 
     def test_how_many_threads_search(self):
         """Each thread makes one search and no more, and there are as many as asked for, or as parts of the work."""
