@@ -238,7 +238,8 @@ def pairs(rows, rounds):
         title = f"{at[2]:,} pairs in {at[1]:,} nodes, {rounds(at)} rounds"
         if at in whole:
             out += table(f"{title}, whole runs", whole[at], whole[at].get((BASE, 1)))
-        out += table(f"{title}, solving alone", solving[at], solving[at].get((BASE, 1)))
+        if any(program.startswith(OURS) for program, _ in solving[at]):
+            out += table(f"{title}, solving alone", solving[at], solving[at].get((BASE, 1)))
     return out
 
 
