@@ -227,10 +227,10 @@ class Road:
         """The node that is nearest to a place in degrees (or to x and y in metres, if its places are so), and the metres to it.
 
         It is one to start from, or with `end` one to arrive at, of crossings and stops that have several nodes. The road has its places by
-        `placed`; one without is a Failure (23 LengthsDiffer). The tree is SciPy's if it is there, and is made by the first call.
+        `placed`; one without is a ValueError. The tree is SciPy's if it is there, and is made by the first call.
         """
         if self._places is None:
-            raise Failure(23, "the road has no places of nodes; road.placed(path) gives it those of a .co or a .nodes.csv")
+            raise ValueError("the road has no places of nodes; road.placed(path) gives it those of a .co or a .nodes.csv")
         number, metres = self._places.nearest(float(longitude), float(latitude), "end" if end else "start")
         return self.name(number), metres
 

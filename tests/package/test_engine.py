@@ -597,7 +597,7 @@ class Values(Case):
                         self.assertAlmostEqual(far, want[0], delta=0.2)
                     self.assertEqual(other.named([f"n{node}" for node in places]).nearest(*asked, end)[0], f"n{want[1]}")
                     self.assertEqual(other.named([f"n{node}" for node in places]).numbered.nearest(*asked, end)[0], want[1])
-            self.refused(23, lambda: road.nearest(11, 44))
+            self.assertRaisesRegex(ValueError, "no places of nodes; road.placed", road.nearest, 11, 44)
             for why, call in (("unit", lambda: road.placed(co)), ("isn't there", lambda: road.placed(os.path.join(room, "none.co"))), ("no place", lambda: tabled.nearest(200, 0)), ("no place", lambda: tabled.nearest(math.nan, 0)),
                               ("no node of the road", lambda: earliest.Road.of_arcs(39, [], [], []).placed(table))):
                 self.told(Refused, why, call)
