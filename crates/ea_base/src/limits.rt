@@ -55,8 +55,8 @@ pub const MOST_BATCH: u32 = 64;
 /// The most idle turns in a row that a worker bears.
 pub const MOST_PATIENCE: u32 = 1_048_576;
 
-/// The horizon is the last time of 48 bits, and the limits are these.
-pub fn limits_are_these()
+/// The horizon is the last time of 48 bits, and the limits of files and networks are these.
+pub fn limits_of_files_are_these()
     ensures horizon { HORIZON ≡ 2 ^ 48 - 1 }
     ensures nodes { MOST_NODES ≡ 2 ^ 26 }
     ensures arcs { MOST_ARCS ≡ 2 ^ 28 }
@@ -67,6 +67,10 @@ pub fn limits_are_these()
     ensures starts { MOST_STARTS ≡ 1000000 }
     ensures bytes { MOST_BYTES ≡ 2 ^ 33 }
     ensures interruptions { MOST_INTERRUPTIONS ≡ 1000 }
+{}
+
+/// The limits of a run are these.
+pub fn limits_of_runs_are_these()
     ensures workers { MOST_WORKERS ≡ 16 }
     ensures at_once { MOST_AT_ONCE ≡ 16 }
     ensures least_heaps { LEAST_HEAPS ≡ 2 }

@@ -1,5 +1,5 @@
-//! The public constant whose value no law states. For the others the laws are `limits_are_these` and those of
-//! labels, of heaps and of steps.
+//! The public constant whose value no law states. For the others the laws are `limits_of_files_are_these`,
+//! `limits_of_runs_are_these` and those of labels, of heaps and of steps.
 use ea_search::NO_LEVEL;
 
 /// NO_LEVEL is above each level.
