@@ -25,9 +25,6 @@ use ea_travel_times::TravelTimes;
 use std::alloc::AllocError;
 use std::mem;
 
-/// The number of nodes that are scanned before bounds are begun: a near target is then found without the way up the tree.
-const NEAR: u32 = 512;
-
 impl Underway {
     /// Offers the sources their departures.
     fn begin(
@@ -57,7 +54,7 @@ impl Underway {
         Ok(())
     }
 
-    /// Visits open nodes until none is left, or enough of them were scanned.
+    /// Visits open nodes until none is left, or as many were scanned as are near: a near target is then found without the way up the tree.
     fn run_near<T: TravelTimes>(
         &mut self,
         network: &Network,
@@ -80,7 +77,7 @@ impl Underway {
             (potential_of prepared.now self.old.potential) self.old.table.labels.items
             self.old.frontier self.new.table.labels.items self.new.frontier) }
     {
-        let mut left = NEAR;
+        let mut left = prepared.near();
         while left > 0 {
             let Some(entry) = self.frontier.take() else {
                 return Ok(());

@@ -11,3 +11,4 @@ pub mod Reaching
 pub mod Bounding
 pub mod Paths
 pub mod Consistent
+pub mod Trimming

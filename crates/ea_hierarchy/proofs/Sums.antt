@@ -20,6 +20,10 @@ pub plus_there_and_back : (p d u : ℕ) → p ≤ NONE → p ≤ plus d (plus u 
 unfolding plus
 plus_there_and_back p d u to = grind (arith, nat_tests)
 
+pub plus_over : (u j p q r : ℕ) → plus u j ≤ p → q ≤ plus j r → plus u q ≤ plus p r
+unfolding plus
+plus_over u j p q r whole part = grind (arith, nat_tests)
+
 -- a sum with a number of a walk
 pub plus_finite : (low q : ℕ) → q < NONE → (plus (min low MOST) q < NONE) × (plus (min low MOST) q ≤ low + q)
 unfolding plus

@@ -6,3 +6,4 @@ pub mod Preparations
 pub mod Potentials
 pub mod Cells
 pub mod Bounds
+pub mod Trimmed

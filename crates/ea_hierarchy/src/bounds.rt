@@ -50,8 +50,12 @@ impl Bounds {
     {
         let rank = prepared.ranks[node as usize - 1];
         self.cells.climb(&prepared.upward, rank, &mut self.path);
-        self.cells
-            .descend(&prepared.upward, &prepared.numbers, &mut self.path);
+        self.cells.descend(
+            &prepared.upward,
+            &prepared.numbers,
+            &prepared.trimmed,
+            &mut self.path,
+        );
         let bound = self.cells.list[rank as usize].bound;
         if bound == NONE { None } else { Some(bound) }
     }

@@ -1,10 +1,11 @@
 //! What is known of each rank for one target.
-ghost use Rattle.std.specs.Prelude.{◌≡◌, ◌≤◌, ◌<◌, ◌+◌, ◌-◌, ◌^◌, ℕ, IfOk, [], length, slice_index};
+ghost use Rattle.std.specs.Prelude.{◌≡◌, ◌≤◌, ◌<◌, ◌+◌, ◌-◌, ◌^◌, ℕ, Contains, IfOk, [], length, slice_index};
 ghost use Rattle.std.specs.Vec.{vec_capacity};
 ghost use Rattle.ea_hierarchy.specs.Hierarchies.{AreNumbers, AreUpward, IsFrom};
 
 use crate::customize::Numbers;
 use crate::numbers::{NONE, plus};
+use crate::trimmed::{Link, Trimmed};
 use crate::upward::Upward;
 use std::alloc::{AllocError, Global};
 
@@ -27,7 +28,9 @@ pub(crate) struct Cells {
 }
 
 impl Cells {
-    ghost use Rattle.ea_hierarchy.specs.Cells.{AreFound, AreReached, AreStale, FindsMore, IsBegun, IsFinal, IsPath, IsTopFound, IsWayFrom, LowersReach, RelaxesReach, reach_of};
+    ghost use Rattle.ea_hierarchy.specs.Cells.{AreFound, AreReached, AreStale, FindsMore, IsBegun, IsFinal, IsPath, IsTopFound, IsWayFrom, LowersReach, RelaxesReach, cell_at, reach_of, worth_of};
+    ghost use Rattle.ea_hierarchy.specs.Trimmed.{AreTrimmed, IsLeastBy};
+    ghost use Rattle.ea_hierarchy.specs.declared.trimmed.Link.{Link};
 
     /// Stale cells of this many ranks.
     pub(crate) fn new(alloc: Global, ranks: usize) -> Result<Cells, AllocError>
@@ -82,12 +85,10 @@ impl Cells {
         ensures lowers { LowersReach self.old.stamp self.old.list.items self.new.list.items
             rank reach }
     {
-        if self.reach(rank) <= reach {
-            return;
-        }
+        let least = self.reach(rank).min(reach);
         self.list[rank as usize] = Cell {
             stamp: self.stamp,
-            reach,
+            reach: least,
             bound: NONE,
         };
     }
@@ -136,11 +137,52 @@ impl Cells {
         }
     }
 
-    /// Finds the bound of a rank from those of its heads.
-    fn evaluate(&mut self, upward: &Upward, numbers: &Numbers, rank: u32)
+    /// The least of what is reached and of what the heads of a rank's arcs have as bounds.
+    fn least_by_arcs(&self, upward: &Upward, numbers: &Numbers, rank: u32, reach: u32) -> u32
         requires upward { AreUpward upward.now.firsts.items upward.now.heads.items }
         requires numbers { AreNumbers upward.now.heads.items numbers.now.ups.items
             numbers.now.downs.items }
+        requires rank { rank < length upward.now.firsts.items - 1 }
+        requires reach { reach ≡ reach_of self.now.stamp self.now.list.items rank }
+        requires found { AreFound upward.now.firsts.items upward.now.heads.items
+            numbers.now.ups.items self.now.stamp self.now.list.items }
+        requires heads { (place : ℕ) → IsFrom upward.now.firsts.items rank place
+            → IsFinal self.now.stamp self.now.list.items
+            (slice_index upward.now.heads.items place) }
+        ensures { result ≡ worth_of upward.now.firsts.items upward.now.heads.items
+            numbers.now.ups.items self.now.stamp self.now.list.items rank }
+    {
+        let mut bound = reach;
+        let begin = upward.firsts[rank as usize] as usize;
+        let end = upward.firsts[rank as usize + 1] as usize;
+        for place in begin..end {
+            let head = self.list[upward.heads[place] as usize];
+            bound = bound.min(plus(numbers.ups[place], head.bound));
+        }
+        bound
+    }
+
+    /// The least of what is reached and of what the heads of links have as bounds.
+    fn least_by_links(&self, links: &[Link], reach: u32) -> u32
+        requires { (link : Link) → Contains links.now link → link.head < length self.now.list.items }
+        ensures { IsLeastBy (λ head. (cell_at self.now.list.items head).bound) links.now reach
+            result }
+    {
+        let mut bound = reach;
+        for link in links {
+            let head = self.list[link.head as usize];
+            bound = bound.min(plus(link.number, head.bound));
+        }
+        bound
+    }
+
+    /// Finds the bound of a rank from those of its heads.
+    fn evaluate(&mut self, upward: &Upward, numbers: &Numbers, trimmed: &Trimmed, rank: u32)
+        requires upward { AreUpward upward.now.firsts.items upward.now.heads.items }
+        requires numbers { AreNumbers upward.now.heads.items numbers.now.ups.items
+            numbers.now.downs.items }
+        requires trimmed { AreTrimmed upward.now.firsts.items upward.now.heads.items
+            numbers.now.ups.items trimmed.now.rows.items }
         requires rank { rank < length upward.now.firsts.items - 1 }
         requires found { AreFound upward.now.firsts.items upward.now.heads.items
             numbers.now.ups.items self.old.stamp self.old.list.items }
@@ -154,13 +196,10 @@ impl Cells {
         ensures here { IsFinal self.new.stamp self.new.list.items rank }
     {
         let reach = self.reach(rank);
-        let mut bound = reach;
-        let begin = upward.firsts[rank as usize] as usize;
-        let end = upward.firsts[rank as usize + 1] as usize;
-        for place in begin..end {
-            let head = self.list[upward.heads[place] as usize];
-            bound = bound.min(plus(numbers.ups[place], head.bound));
-        }
+        let bound = match trimmed.links(upward, rank) {
+            Some(links) => self.least_by_links(links, reach),
+            None => self.least_by_arcs(upward, numbers, rank, reach),
+        };
         self.list[rank as usize] = Cell {
             stamp: self.stamp + 1,
             reach,
@@ -193,10 +232,18 @@ impl Cells {
     }
 
     /// Finds the bounds of the ranks of a path, the last first.
-    pub(crate) fn descend(&mut self, upward: &Upward, numbers: &Numbers, path: &mut Vec<u32>)
+    pub(crate) fn descend(
+        &mut self,
+        upward: &Upward,
+        numbers: &Numbers,
+        trimmed: &Trimmed,
+        path: &mut Vec<u32>,
+    )
         requires upward { AreUpward upward.now.firsts.items upward.now.heads.items }
         requires numbers { AreNumbers upward.now.heads.items numbers.now.ups.items
             numbers.now.downs.items }
+        requires trimmed { AreTrimmed upward.now.firsts.items upward.now.heads.items
+            numbers.now.ups.items trimmed.now.rows.items }
         requires found { AreFound upward.now.firsts.items upward.now.heads.items
             numbers.now.ups.items self.old.stamp self.old.list.items }
         requires path { IsPath upward.now.firsts.items upward.now.heads.items path.old.items }
@@ -211,7 +258,7 @@ impl Cells {
             → IsFinal self.new.stamp self.new.list.items rank }
     {
         while let Some(rank) = path.pop() {
-            self.evaluate(upward, numbers, rank);
+            self.evaluate(upward, numbers, trimmed, rank);
         }
     }
 }

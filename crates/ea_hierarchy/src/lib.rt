@@ -12,6 +12,7 @@ mod order;
 mod postorder;
 mod prepared;
 mod ranks;
+mod trimmed;
 mod unprepared;
 mod upward;
 mod waiting;

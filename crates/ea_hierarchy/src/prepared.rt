@@ -11,8 +11,9 @@ use crate::numbers::NONE;
 use crate::order::eliminate_all;
 use crate::postorder::in_postorder;
 use crate::ranks::ranks_of;
+use crate::trimmed::Trimmed;
 use crate::unprepared::Unprepared;
-use crate::upward::{Limits, Upward, upward_of};
+use crate::upward::{Limits, Upward, mean_arcs_above, upward_of};
 use crate::waiting::lists_of;
 use ea_road::Network;
 use ea_travel_times::TravelTimes;
@@ -27,12 +28,16 @@ pub struct Prepared {
     pub(crate) ranks: Vec<u32>,
     pub(crate) upward: Upward,
     pub(crate) numbers: Numbers,
+    pub(crate) trimmed: Trimmed,
     /// For each node whether it is on a chain.
     chains: Vec<bool>,
+    /// How many nodes a search may scan in about half the time of a first bound.
+    near: u32,
 }
 
 impl Model for Prepared {
     ghost use Rattle.ea_hierarchy.specs.Hierarchies.{Hierarchy, IsHierarchy};
+    ghost use Rattle.ea_hierarchy.specs.Trimmed.{AreTrimmed};
 
     ghost Value = { Hierarchy };
 
@@ -50,7 +55,9 @@ impl Model for Prepared {
       heads = p.upward.heads.items;
       ups = p.numbers.ups.items;
       downs = p.numbers.downs.items;
-    }) };
+    })
+        × AreTrimmed p.upward.firsts.items p.upward.heads.items p.numbers.ups.items
+        p.trimmed.rows.items };
 }
 
 /// The upward arcs of a network over the ranks of its nodes; none if there are too many of them or of triangles.
@@ -82,6 +89,18 @@ fn limits_of(network: &Network) -> Limits {
         arcs: (4096 + 16 * size).min(u64::from(NONE)) as u32,
         triangles: 1_048_576 + 256 * size,
     }
+}
+
+/// The least number of nodes that are near.
+const LEAST_NEAR: u64 = 512;
+
+/// How many upward arcs are gone in half the time that a search scans a node in.
+const ARCS_A_NODE: u64 = 64;
+
+/// How many nodes a search may scan in about half the time of a first bound.
+fn near_by(upward: &Upward) -> u32 {
+    let nodes = mean_arcs_above(upward) / ARCS_A_NODE;
+    nodes.max(LEAST_NEAR).min(u64::from(NONE)) as u32
 }
 
 /// Numbers at upward arcs for these travel times.
@@ -157,15 +176,21 @@ impl Prepared {
         };
         let numbers = numbers_for(alloc, network, times, &ranks, &upward)?;
         let chains = chains_of(alloc, network)?;
+        let near = near_by(&upward);
+        let mut trimmed = Trimmed::none(alloc);
+        trimmed.fill(&upward, &numbers.ups)?;
         Ok(Prepared {
             ranks,
             upward,
             numbers,
+            trimmed,
             chains,
+            near,
         })
     }
 
-    /// Makes the numbers anew for other travel times of the same arcs. Takes no memory.
+    /// Makes the numbers anew for other travel times of the same arcs. If memory for the rows of arcs that are left is refused, bounds are
+    /// found more slowly.
     pub fn customize<T: TravelTimes>(&mut self, network: &Network, times: &T)
         requires classes { top_class network.now.arcs ≤ T.classes times.now }
         requires over { IsPreparedOver network.now self.old }
@@ -175,6 +200,7 @@ impl Prepared {
         self.numbers.forget();
         cover(network, times, &self.ranks, &self.upward, &mut self.numbers);
         relax(&self.upward, &mut self.numbers);
+        let _ = self.trimmed.fill(&self.upward, &self.numbers.ups);
     }
 
     /// The number of nodes.
@@ -191,6 +217,11 @@ impl Prepared {
             Some(is) => *is,
             None => false,
         }
+    }
+
+    /// How many nodes a search may scan in about half the time that the first bound to a target takes.
+    pub fn near(&self) -> u32 {
+        self.near
     }
 
     /// For proofs: the upward arcs and their numbers are in order. Does nothing at run time.

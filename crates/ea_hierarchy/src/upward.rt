@@ -77,3 +77,43 @@ pub(crate) fn upward_of(
     }
     Ok(Some(Upward { firsts, heads }))
 }
+
+/// The most ranks that are looked at on a way up.
+const MOST_HIGH: u32 = 1_048_576;
+
+/// The number of ranks whose ways up are looked at.
+const SAMPLES: usize = 64;
+
+/// How many upward arcs there are on the way up from a rank.
+fn arcs_above(upward: &Upward, from: usize) -> u64 {
+    let mut rank = from;
+    let mut arcs = 0u64;
+    for _ in 0..MOST_HIGH {
+        let Some(first) = upward.firsts.get(rank) else {
+            return arcs;
+        };
+        let Some(end) = upward.firsts.get(rank.saturating_add(1)) else {
+            return arcs;
+        };
+        if end <= first {
+            return arcs;
+        }
+        arcs = arcs.saturating_add(u64::from(end.saturating_sub(*first)));
+        let Some(head) = upward.heads.get(*first as usize) else {
+            return arcs;
+        };
+        rank = *head as usize;
+    }
+    arcs
+}
+
+/// The mean number of upward arcs on a way up, of some ranks.
+pub(crate) fn mean_arcs_above(upward: &Upward) -> u64 {
+    let ranks = upward.firsts.len();
+    let mut arcs = 0u64;
+    for sample in 0..SAMPLES {
+        let rank = (ranks / SAMPLES).saturating_mul(sample);
+        arcs = arcs.saturating_add(arcs_above(upward, rank));
+    }
+    arcs / SAMPLES as u64
+}

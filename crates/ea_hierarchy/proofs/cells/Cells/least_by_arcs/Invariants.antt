@@ -3,7 +3,7 @@ use Rattle.std.specs.Prelude.{slice_index}
 use Rattle.ea_hierarchy.specs.Cells.{reach_of, worth_of}
 use Rattle.ea_hierarchy.specs.Numbers.{plus}
 use Rattle.ea_hierarchy.specs.Potentials.{least_over}
-use Rattle.ea_hierarchy.proofs.cells.Cells.evaluate.Given as goal
+use Rattle.ea_hierarchy.proofs.cells.Cells.least_by_arcs.Given as goal
 
 abbrev pub invariant-loop-place : goal.invariant-loop-place
 invariant-loop-place l =

@@ -1,0 +1,188 @@
+//! The upward arcs of ranks with many of them, without those that two others replace: a bound needs no look at these.
+ghost use Rattle.std.specs.Prelude.{◌≡◌, ◌≤◌, ◌<◌, ◌-◌, ◌^◌, ℕ, [], List, IfOk, IfSome, length, slice_index, true};
+ghost use Rattle.ea_hierarchy.specs.Hierarchies.{AreUpward, IsFrom};
+ghost use Rattle.ea_hierarchy.specs.Trimmed.{AreMarked, AreTrimmed, IsReplaced, IsTrimmed};
+
+use crate::numbers::plus;
+use crate::upward::Upward;
+use std::alloc::{AllocError, Global};
+
+/// Ranks with at least this many upward arcs have a list without the replaced ones. A search looks mostly at arcs of such ranks, and about
+/// a third of them are left.
+const LONG: usize = 128;
+
+/// An upward arc that is left: its head, and its number.
+#[derive(Clone, Copy)]
+pub(crate) struct Link {
+    pub(crate) head: u32,
+    pub(crate) number: u32,
+}
+
+/// The arcs of a rank that are left.
+#[derive(Drop)]
+pub(crate) struct Row {
+    rank: u32,
+    links: Vec<Link>,
+}
+
+/// The rows of ranks with many arcs. A hint tells which row may be a rank's, by the place of its first arc; what the row says of itself
+/// decides.
+#[derive(Drop)]
+pub(crate) struct Trimmed {
+    alloc: Global,
+    hints: Vec<usize>,
+    rows: Vec<Row>,
+}
+
+/// Whether the arc at a place and the one at another from its head replace a later arc of its rank.
+#[inline(always)]
+fn replace(
+    upward: &Upward,
+    ups: &[u32],
+    rank: u32,
+    place: usize,
+    joining: usize,
+    later: usize,
+) -> bool
+    requires upward { AreUpward upward.now.firsts.items upward.now.heads.items }
+    requires numbers { length ups.now ≡ length upward.now.heads.items }
+    requires rank { rank < length upward.now.firsts.items - 1 }
+    requires place { IsFrom upward.now.firsts.items rank place }
+    requires later { IsFrom upward.now.firsts.items rank later × (place < later) }
+    requires joining { slice_index upward.now.firsts.items
+        (slice_index upward.now.heads.items place) ≤ joining }
+    ensures { result ≡ true → IsReplaced upward.now.firsts.items upward.now.heads.items ups.now rank
+        later }
+{
+    let head = upward.heads[place];
+    if joining >= upward.firsts[head as usize + 1] as usize {
+        return false;
+    }
+    if upward.heads[joining] != upward.heads[later] {
+        return false;
+    }
+    if ups[later] < plus(ups[place], ups[joining]) {
+        return false;
+    }
+    true
+}
+
+/// Marks the arcs of a rank after a place that the arc there replaces, together with one from its head.
+fn mark(upward: &Upward, ups: &[u32], rank: u32, place: usize, marks: &mut Vec<bool>)
+    requires upward { AreUpward upward.now.firsts.items upward.now.heads.items }
+    requires numbers { length ups.now ≡ length upward.now.heads.items }
+    requires rank { rank < length upward.now.firsts.items - 1 }
+    requires place { IsFrom upward.now.firsts.items rank place }
+    requires marked { AreMarked upward.now.firsts.items upward.now.heads.items ups.now rank
+        marks.old.items }
+    ensures { AreMarked upward.now.firsts.items upward.now.heads.items ups.now rank
+        marks.new.items }
+{
+    let begin = upward.firsts[rank as usize] as usize;
+    let end = upward.firsts[rank as usize + 1] as usize;
+    let head = upward.heads[place];
+    let mut joining = upward.firsts[head as usize] as usize;
+    let last = upward.firsts[head as usize + 1] as usize;
+    for later in place + 1..end {
+        let wanted = upward.heads[later];
+        while joining < last && upward.heads[joining] < wanted {
+            joining += 1;
+        }
+        if replace(upward, ups, rank, place, joining, later) {
+            marks[later - begin] = true;
+        }
+    }
+}
+
+/// The arcs of a rank that no others replace.
+fn links_of(alloc: Global, upward: &Upward, ups: &[u32], rank: u32) -> Result<Vec<Link>, AllocError>
+    requires upward { AreUpward upward.now.firsts.items upward.now.heads.items }
+    requires numbers { length ups.now ≡ length upward.now.heads.items }
+    requires rank { rank < length upward.now.firsts.items - 1 }
+    ensures { IfOk result (λ links. IsTrimmed upward.now.firsts.items upward.now.heads.items ups.now
+        rank links.items) }
+{
+    let begin = upward.firsts[rank as usize] as usize;
+    let end = upward.firsts[rank as usize + 1] as usize;
+    let mut marks = vec![in alloc; false; end - begin]?;
+    for place in begin..end {
+        if !marks[place - begin] {
+            mark(upward, ups, rank, place, &mut marks);
+        }
+    }
+    let mut links = Vec::new(alloc);
+    for place in begin..end {
+        if !marks[place - begin] {
+            links.push(Link {
+                head: upward.heads[place],
+                number: ups[place],
+            })?;
+        }
+    }
+    Ok(links)
+}
+
+impl Trimmed {
+    /// No rows.
+    pub(crate) fn none(alloc: Global) -> Trimmed
+        ensures { result.rows.items ≡ [] }
+    {
+        Trimmed {
+            alloc,
+            hints: Vec::new(alloc),
+            rows: Vec::new(alloc),
+        }
+    }
+
+    /// Adds the row of a rank whose first arc is at a place.
+    fn add(&mut self, rank: u32, begin: usize, links: Vec<Link>) -> Result<(), AllocError>
+        ensures { (firsts heads ups : List ℕ) → AreTrimmed firsts heads ups self.old.rows.items
+            → IsTrimmed firsts heads ups rank links.items
+            → AreTrimmed firsts heads ups self.new.rows.items }
+    {
+        let row = self.rows.len();
+        if let Some(hint) = self.hints.get_mut(begin / LONG) {
+            *hint = row;
+        }
+        self.rows.push(Row { rank, links })?;
+        Ok(())
+    }
+
+    /// Makes the rows of all ranks with many arcs. If memory is refused, the others have none.
+    pub(crate) fn fill(&mut self, upward: &Upward, ups: &[u32]) -> Result<(), AllocError>
+        requires upward { AreUpward upward.now.firsts.items upward.now.heads.items }
+        requires few { length upward.now.firsts.items < 2 ^ 32 }
+        requires numbers { length ups.now ≡ length upward.now.heads.items }
+        ensures { AreTrimmed upward.now.firsts.items upward.now.heads.items ups.now
+            self.new.rows.items }
+    {
+        self.rows.clear();
+        self.hints.clear();
+        self.hints.resize(upward.heads.len() / LONG + 1, 0)?;
+        for rank in 0..upward.firsts.len() - 1 {
+            let begin = upward.firsts[rank] as usize;
+            if upward.firsts[rank + 1] as usize - begin >= LONG {
+                let links = links_of(self.alloc, upward, ups, rank as u32)?;
+                self.add(rank as u32, begin, links)?;
+            }
+        }
+        Ok(())
+    }
+
+    /// The arcs of a rank that are left; none if it has no row.
+    pub(crate) fn links(&self, upward: &Upward, rank: u32) -> Option<&[Link]>
+        requires rank { rank < length upward.now.firsts.items - 1 }
+        ensures { (firsts heads ups : List ℕ) → AreTrimmed firsts heads ups self.now.rows.items
+            → IfSome result (λ links. IsTrimmed firsts heads ups rank links.now) }
+    {
+        let hint = *self
+            .hints
+            .get(upward.firsts[rank as usize] as usize / LONG)?;
+        let row = self.rows.get(hint)?;
+        if row.rank == rank {
+            Some(&row.links)
+        } else {
+            None
+        }
+    }
+}
