@@ -1,13 +1,17 @@
 -- Ranks are reached over arcs downward from the target.
-use Rattle.std.proofs.Common.{◌≡◌, ℕ, ◌+◌, ◌<◌, ◌≤◌, ◌⊎◌, inl, inr, sym, subst, ◌∙◌, arith, List, length}
-use Rattle.std.specs.Prelude.{slice_index}
+use Rattle.std.proofs.Common.{◌≡◌, ℕ, zero, suc, ◌+◌, ◌<◌, ◌≤◌, ◌⊎◌, inl, inr, ap, sym, subst, ◌∙◌, arith, List, length}
+use Rattle.std.specs.Prelude.{slice_index, slice_index_or}
+use Rattle.std.proofs.lemmas.List.{get_or_default}
 use Rattle.std.proofs.lemmas.Bool.Decides.{leb_tells, nat_tests}
-use Rattle.ea_hierarchy.specs.Cells.{AreReached, AreStale, LowersReach, RelaxesReach, reach_of}
+use Rattle.ea_hierarchy.specs.Cells.{AreReached, AreStale, LowersReach, RelaxesLinks, RelaxesReach, reach_of}
 use Rattle.ea_hierarchy.specs.Hierarchies.{HasArc, IsFrom, IsUpward, Joins}
 use Rattle.ea_hierarchy.specs.Numbers.{plus}
 use Rattle.ea_hierarchy.specs.Potentials.{IsReach}
+use Rattle.ea_hierarchy.specs.Trimmed.{IsReplaced, IsTrimmed}
 use Rattle.ea_hierarchy.proofs.Finding.{comes_first}
+use Rattle.ea_hierarchy.proofs.Sums.{plus_under}
 use Rattle.ea_hierarchy.specs.declared.cells.Cell.{Cell}
+use Rattle.ea_hierarchy.specs.declared.trimmed.Link.{Link}
 use Rattle.ea_hierarchy.specs.declared.numbers.TheConstants.{NONE}
 
 pub same_or_not : (a b : ℕ) → (a ≡ b) ⊎ (a ≡ b → ⊥)
@@ -37,8 +41,11 @@ relaxes_more nodes firsts heads downs stamp list middle after rank to down are b
     | inl last ↦
         let same : to ≡ place = omega (arith, last.1, early) in
         let here : reach_of stamp after (slice_index heads to) ≤ plus (slice_index downs to) (reach_of stamp list rank) = subst (λ n. reach_of stamp after (slice_index heads to) ≤ plus n (reach_of stamp list rank)) same_down lowers.here.1 in
-        subst (λ p. reach_of stamp after (slice_index heads p) ≤ plus (slice_index downs p) (reach_of stamp list rank)) same here
-    | inr before ↦ omega (arith, fall (slice_index heads place), relaxes.over place from before.1)
+        inl (subst (λ p. reach_of stamp after (slice_index heads p) ≤ plus (slice_index downs p) (reach_of stamp list rank)) same here)
+    | inr before ↦ elim (relaxes.over place from before.1) [
+      | inl low ↦ inl (omega (arith, fall (slice_index heads place), low))
+      | inr replaced ↦ inr replaced
+    ]
   ];
 }
   where
@@ -48,7 +55,57 @@ relaxes_more nodes firsts heads downs stamp list middle after rank to down are b
       | inr differs ↦ omega (arith, lowers.others other differs)
     ]
 
+-- one more link of a rank
+pub links_more : (stamp : ℕ) (list middle after : List Cell) (links : List Link) (reach count : ℕ) (link : Link) → count < length links → slice_index_or links count link ≡ link
+    → RelaxesLinks stamp list middle links reach count → LowersReach stamp middle after link.head (plus link.number reach) → RelaxesLinks stamp list after links reach (count + 1)
+links_more stamp list middle after links reach count link inside at relaxes lowers = record {
+  count_is = lowers.count ∙ relaxes.count_is;
+  reached = λ all. lowers.reached (relaxes.reached all);
+  fall = λ other. omega (arith, fall other, relaxes.fall other);
+  kept = λ other. elim (same_or_not other link.head) [
+    | inl same ↦ inr (link, (count, inside, at), sym same)
+    | inr differs ↦ elim (relaxes.kept other) [
+      | inl stays ↦ inl (lowers.others other differs ∙ stays)
+      | inr has ↦ inr has
+    ]
+  ];
+  over = λ k other before. elim (leb_tells count k) [
+    | inl last ↦
+        let here : slice_index_or links k other ≡ link = ap (λ n. slice_index_or links n other) (omega (arith, last.1, before)) ∙ get_or_default links count other link inside ∙ at in
+        subst (λ (l : Link). reach_of stamp after l.head ≤ plus l.number reach) (sym here) lowers.here.1
+    | inr earlier ↦ omega (arith, fall (slice_index_or links k other).head, relaxes.over k other earlier.1)
+  ];
+}
+  where
+    fall : (other : ℕ) → reach_of stamp after other ≤ reach_of stamp middle other
+    fall other = elim (same_or_not other link.head) [
+      | inl same ↦ subst (λ n. reach_of stamp after n ≤ reach_of stamp middle n) (sym same) lowers.here.0
+      | inr differs ↦ omega (arith, lowers.others other differs)
+    ]
+
+-- the arcs that are left serve for all
+pub relaxes_all : (firsts heads downs : List ℕ) (stamp : ℕ) (list after : List Cell) (rank : ℕ) (links : List Link) → IsTrimmed firsts heads downs rank links → RelaxesLinks stamp list after links (reach_of stamp list rank) (length links) → RelaxesReach firsts heads downs stamp list after rank (slice_index firsts (rank + 1))
+relaxes_all firsts heads downs stamp list after rank links trimmed relaxes = record {
+  count = relaxes.count_is;
+  reached = relaxes.reached;
+  fall = relaxes.fall;
+  kept = λ other. elim (relaxes.kept other) [
+    | inl stays ↦ inl stays
+    | inr found ↦
+        let arc = trimmed.arcs found.0 found.1 in
+        inr (arc.place, record { is_from = arc.is_from; head = arc.head ∙ found.2 })
+  ];
+  over = λ place from early. elim (trimmed.rest place from) [
+    | inl there ↦ inl (subst (λ (l : Link). reach_of stamp after l.head ≤ plus l.number (reach_of stamp list rank)) there.2 (relaxes.over there.0 _ there.1))
+    | inr replaced ↦ inr replaced
+  ];
+}
+
 -- ---- up the path of lowest heads
+
+-- a head isn't reached later than over an arc, or two others replace it
+abbrev pub IsRelaxed : List ℕ → List ℕ → List ℕ → (ℕ → ℕ) → ℕ → ℕ → Type 0
+IsRelaxed firsts heads downs reach rank place = (reach (slice_index heads place) ≤ plus (slice_index downs place) (reach rank)) ⊎ IsReplaced firsts heads downs rank place
 
 -- the ranks before one are relaxed, and what is reached above it are its heads
 pub record IsClimbing (nodes : ℕ) (firsts heads downs : List ℕ) (target stamp : ℕ) (list : List Cell) (rank : ℕ) : Type 0 where
@@ -57,12 +114,27 @@ pub record IsClimbing (nodes : ℕ) (firsts heads downs : List ℕ) (target stam
   pub at_target : reach_of stamp list target ≡ 0
   pub to_none : (other : ℕ) → reach_of stamp list other ≤ NONE
   pub target_to : target ≤ rank
-  pub relaxed : (other place : ℕ) → other < rank → IsFrom firsts other place → reach_of stamp list (slice_index heads place) ≤ plus (slice_index downs place) (reach_of stamp list other)
+  pub relaxed : (other place : ℕ) → other < rank → IsFrom firsts other place → IsRelaxed firsts heads downs (reach_of stamp list) other place
   pub above : (other : ℕ) → rank < other → reach_of stamp list other < NONE → HasArc firsts heads rank other
 
 none_sum : (down : ℕ) → plus down NONE ≡ NONE
 unfolding plus
 none_sum down = grind (arith, nat_tests)
+
+-- if each arc is relaxed or replaced, no head is reached later than over any
+all_over : (nodes : ℕ) (firsts heads downs : List ℕ) (reach : ℕ → ℕ) → IsUpward nodes firsts heads → ((rank place : ℕ) → rank < nodes → IsFrom firsts rank place → IsRelaxed firsts heads downs reach rank place)
+    → (steps few rank place : ℕ) → nodes ≤ rank + steps → place < few → rank < nodes → IsFrom firsts rank place → reach (slice_index heads place) ≤ plus (slice_index downs place) (reach rank)
+all_over nodes firsts heads downs reach are relaxed zero few rank place far before below from = absurd (omega (arith, far, below))
+all_over nodes firsts heads downs reach are relaxed (suc steps) zero rank place far before below from = absurd (omega (arith, before))
+all_over nodes firsts heads downs reach are relaxed (suc steps) (suc few) rank place far before below from = elim (relaxed rank place below from) [
+  | inl over ↦ over
+  | inr replaced ↦
+      let one = all_over nodes firsts heads downs reach are relaxed (suc steps) few rank replaced.earlier far (omega (arith, before, replaced.before)) below replaced.is_from in
+      let up = are.upward rank replaced.earlier below replaced.is_from in
+      let two = all_over nodes firsts heads downs reach are relaxed steps (suc replaced.joining) (slice_index heads replaced.earlier) replaced.joining (omega (arith, far, up.0)) (omega arith) up.1 replaced.joins.is_from in
+      let to_head : reach (slice_index heads place) ≤ plus (slice_index downs replaced.joining) (reach (slice_index heads replaced.earlier)) = subst (λ n. reach n ≤ plus (slice_index downs replaced.joining) (reach (slice_index heads replaced.earlier))) replaced.joins.head two in
+      plus_under (slice_index downs replaced.earlier) (slice_index downs replaced.joining) (slice_index downs place) (reach (slice_index heads replaced.earlier)) (reach (slice_index heads place)) (reach rank) replaced.shorter to_head one
+]
 
 module _ (nodes : ℕ) (firsts heads downs : List ℕ) (target stamp : ℕ) (are : IsUpward nodes firsts heads) (list after : List Cell) (rank : ℕ) (below : rank < nodes)
     (climbing : IsClimbing nodes firsts heads downs target stamp list rank)
@@ -86,21 +158,30 @@ module _ (nodes : ℕ) (firsts heads downs : List ℕ) (target stamp : ℕ) (are
       | inr has ↦ has
     ]
 
-    still_relaxed : (other place : ℕ) → other ≤ rank → IsFrom firsts other place → reach_of stamp after (slice_index heads place) ≤ plus (slice_index downs place) (reach_of stamp after other)
-    still_relaxed other place low is = rw (stays other low) (elim (leb_tells rank other) [
+    still_relaxed : (other place : ℕ) → other ≤ rank → IsFrom firsts other place → IsRelaxed firsts heads downs (reach_of stamp after) other place
+    still_relaxed other place low is = elim (leb_tells rank other) [
       | inl last ↦
-          let same : other ≡ rank = omega (arith, last.1, low) in
-          let here : IsFrom firsts rank place = subst (λ r. IsFrom firsts r place) same is in
-          let over = relaxes.over place here here.before in
-          subst (λ r. reach_of stamp after (slice_index heads place) ≤ plus (slice_index downs place) (reach_of stamp list r)) (sym same) over
-      | inr early ↦ omega (arith, relaxes.fall (slice_index heads place), climbing.relaxed other place early.1 is)
-    ])
+          let same : rank ≡ other = omega (arith, last.1, low) in
+          let here : IsFrom firsts rank place = subst (λ r. IsFrom firsts r place) (sym same) is in
+          elim (relaxes.over place here here.before) [
+            | inl over ↦
+                let stay = stays rank (omega arith) in
+                inl (subst (λ r. reach_of stamp after (slice_index heads place) ≤ plus (slice_index downs place) (reach_of stamp after r)) same (rw stay over))
+            | inr replaced ↦ inr (subst (λ r. IsReplaced firsts heads downs r place) same replaced)
+          ]
+      | inr early ↦ elim (climbing.relaxed other place early.1 is) [
+        | inl over ↦
+            let stay = stays other low in
+            inl (rw stay (omega (arith, relaxes.fall (slice_index heads place), over)))
+        | inr replaced ↦ inr replaced
+      ]
+    ]
 
     -- a rank that isn't reached is relaxed
-    idle : (other place : ℕ) → NONE ≤ reach_of stamp after other → reach_of stamp after (slice_index heads place) ≤ plus (slice_index downs place) (reach_of stamp after other)
+    idle : (other place : ℕ) → NONE ≤ reach_of stamp after other → IsRelaxed firsts heads downs (reach_of stamp after) other place
     idle other place none =
         let is : reach_of stamp after other ≡ NONE = omega (arith, none, to_none other) in
-        rw is (omega (arith, none_sum (slice_index downs place), to_none (slice_index heads place)))
+        inl (rw is (omega (arith, none_sum (slice_index downs place), to_none (slice_index heads place))))
 
     reach_target : reach_of stamp after target ≡ 0
     reach_target = stays target climbing.target_to ∙ climbing.at_target
@@ -139,15 +220,15 @@ module _ (nodes : ℕ) (firsts heads downs : List ℕ) (target stamp : ℕ) (are
     climbed none = record {
       at_target = reach_target;
       to_none = to_none;
-      over = λ other place inside is. elim (leb_tells other rank) [
-        | inl low ↦ still_relaxed other place low.1 is
-        | inr high ↦ elim (leb_tells NONE (reach_of stamp after other)) [
-          | inl idle_there ↦ idle other place idle_there.1
+      over = λ other place inside is. all_over nodes firsts heads downs (reach_of stamp after) are (λ any at any_below any_from. elim (leb_tells any rank) [
+        | inl low ↦ still_relaxed any at low.1 any_from
+        | inr high ↦ elim (leb_tells NONE (reach_of stamp after any)) [
+          | inl idle_there ↦ idle any at idle_there.1
           | inr reached ↦
-              let has = head_of other high.1 reached.1 in
+              let has = head_of any high.1 reached.1 in
               absurd (omega (arith, has.1.is_from.from, has.1.is_from.before, none))
         ]
-      ];
+      ]) nodes (suc place) other place (omega arith) (omega arith) inside is;
     }
 
 -- at the beginning the target alone is reached
@@ -161,7 +242,7 @@ climbing_begins nodes firsts heads downs target stamp list after count stale low
     | inr differs ↦ omega (arith, lowers.others other differs, stale_none other)
   ];
   target_to = omega arith;
-  relaxed = λ other place early is. rw (lowers.others other (λ same. omega (arith, early, same)) ∙ stale_none other) (omega (arith, none_sum (slice_index downs place), fine (slice_index heads place)));
+  relaxed = λ other place early is. inl (rw (lowers.others other (λ same. omega (arith, early, same)) ∙ stale_none other) (omega (arith, none_sum (slice_index downs place), fine (slice_index heads place))));
   above = λ other high some. absurd (omega (arith, some, lowers.others other (λ same. omega (arith, high, same)), stale_none other));
 }
   where

@@ -24,6 +24,10 @@ pub plus_over : (u j p q r : ℕ) → plus u j ≤ p → q ≤ plus j r → plus
 unfolding plus
 plus_over u j p q r whole part = grind (arith, nat_tests)
 
+pub plus_under : (u j p x q r : ℕ) → plus u j ≤ p → q ≤ plus j x → x ≤ plus u r → q ≤ plus p r
+unfolding plus
+plus_under u j p x q r whole part first = grind (arith, nat_tests)
+
 -- a sum with a number of a walk
 pub plus_finite : (low q : ℕ) → q < NONE → (plus (min low MOST) q < NONE) × (plus (min low MOST) q ≤ low + q)
 unfolding plus

@@ -1,9 +1,11 @@
 -- What is known of each rank for one target: what is reached from it downward, and its bound once that is found.
-use Rattle.std.specs.Prelude.{◌≡◌, ◌⊎◌, ℕ, ◌+◌, ◌-◌, ◌<◌, ◌≤◌, List, length, nat_le, slice_index, slice_index_or, if◌then◌else◌}
+use Rattle.std.specs.Prelude.{◌≡◌, ◌⊎◌, ℕ, ◌+◌, ◌-◌, ◌<◌, ◌≤◌, List, Contains, length, nat_le, slice_index, slice_index_or, if◌then◌else◌}
 use Rattle.ea_hierarchy.specs.Hierarchies.{HasArc, IsFrom}
 use Rattle.ea_hierarchy.specs.Numbers.{plus}
 use Rattle.ea_hierarchy.specs.Potentials.{IsReach, potential}
+use Rattle.ea_hierarchy.specs.Trimmed.{IsReplaced}
 use Rattle.ea_hierarchy.specs.declared.cells.Cell.{Cell}
+use Rattle.ea_hierarchy.specs.declared.trimmed.Link.{Link}
 use Rattle.ea_hierarchy.specs.declared.numbers.TheConstants.{NONE}
 
 -- The cell of a rank; a stale one if there is none.
@@ -33,13 +35,21 @@ pub record LowersReach (stamp : ℕ) (list after : List Cell) (rank reach : ℕ)
   pub here : (reach_of stamp after rank ≤ reach_of stamp list rank) × (reach_of stamp after rank ≤ reach)
   pub others : (other : ℕ) → (other ≡ rank → ⊥) → reach_of stamp after other ≡ reach_of stamp list other
 
--- The heads of a rank are reached over its arcs.
+-- The heads of the first links are reached from what is reached at their rank.
+pub record RelaxesLinks (stamp : ℕ) (list after : List Cell) (links : List Link) (reach count : ℕ) : Type 0 where
+  pub count_is : length after ≡ length list
+  pub reached : AreReached stamp list → AreReached stamp after
+  pub fall : (other : ℕ) → reach_of stamp after other ≤ reach_of stamp list other
+  pub kept : (other : ℕ) → (reach_of stamp after other ≡ reach_of stamp list other) ⊎ ((link : Link) × Contains links link × (link.head ≡ other))
+  pub over : (k : ℕ) (link : Link) → k < count → reach_of stamp after (slice_index_or links k link).head ≤ plus (slice_index_or links k link).number reach
+
+-- The heads of a rank are reached over its arcs, but for those that two others replace.
 pub record RelaxesReach (firsts heads downs : List ℕ) (stamp : ℕ) (list after : List Cell) (rank to : ℕ) : Type 0 where
   pub count : length after ≡ length list
   pub reached : AreReached stamp list → AreReached stamp after
   pub fall : (other : ℕ) → reach_of stamp after other ≤ reach_of stamp list other
   pub kept : (other : ℕ) → (reach_of stamp after other ≡ reach_of stamp list other) ⊎ HasArc firsts heads rank other
-  pub over : (place : ℕ) → IsFrom firsts rank place → place < to → reach_of stamp after (slice_index heads place) ≤ plus (slice_index downs place) (reach_of stamp list rank)
+  pub over : (place : ℕ) → IsFrom firsts rank place → place < to → (reach_of stamp after (slice_index heads place) ≤ plus (slice_index downs place) (reach_of stamp list rank)) ⊎ IsReplaced firsts heads downs rank place
 
 -- What is reached from a target downward, before any bound is found.
 pub record IsBegun (firsts heads downs : List ℕ) (target stamp : ℕ) (list : List Cell) : Type 0 where

@@ -6,34 +6,34 @@ use Rattle.ea_hierarchy.specs.declared.trimmed.Link.{Link}
 use Rattle.ea_hierarchy.specs.declared.trimmed.Row.{Row}
 
 -- The arc at a place is replaced by an earlier one of its rank and one from there to its head: together they are no longer.
-pub record IsReplaced (firsts heads ups : List ℕ) (rank place : ℕ) : Type 0 where
+pub record IsReplaced (firsts heads numbers : List ℕ) (rank place : ℕ) : Type 0 where
   pub earlier : ℕ
   pub is_from : IsFrom firsts rank earlier
   pub before : earlier < place
   pub joining : ℕ
   pub joins : Joins firsts heads (slice_index heads earlier) (slice_index heads place) joining
-  pub shorter : plus (slice_index ups earlier) (slice_index ups joining) ≤ slice_index ups place
+  pub shorter : plus (slice_index numbers earlier) (slice_index numbers joining) ≤ slice_index numbers place
 
 -- Each arc of a rank that has a mark is replaced.
-pub record AreMarked (firsts heads ups : List ℕ) (rank : ℕ) (marks : List Bool) : Type 0 where
+pub record AreMarked (firsts heads numbers : List ℕ) (rank : ℕ) (marks : List Bool) : Type 0 where
   pub count : slice_index firsts rank + length marks ≡ slice_index firsts (rank + 1)
-  pub replaced : (place : ℕ) → IsFrom firsts rank place → slice_index_or marks (place - slice_index firsts rank) false ≡ true → IsReplaced firsts heads ups rank place
+  pub replaced : (place : ℕ) → IsFrom firsts rank place → slice_index_or marks (place - slice_index firsts rank) false ≡ true → IsReplaced firsts heads numbers rank place
 
 -- A link is an arc of a rank.
-pub record IsLink (firsts heads ups : List ℕ) (rank : ℕ) (link : Link) : Type 0 where
+pub record IsLink (firsts heads numbers : List ℕ) (rank : ℕ) (link : Link) : Type 0 where
   pub place : ℕ
   pub is_from : IsFrom firsts rank place
   pub head : slice_index heads place ≡ link.head
-  pub number : slice_index ups place ≡ link.number
+  pub number : slice_index numbers place ≡ link.number
 
 -- Links are arcs of a rank, and each other arc of it is replaced.
-pub record IsTrimmed (firsts heads ups : List ℕ) (rank : ℕ) (links : List Link) : Type 0 where
-  pub arcs : (link : Link) → Contains links link → IsLink firsts heads ups rank link
-  pub rest : (place : ℕ) → IsFrom firsts rank place → Contains links (record { head = slice_index heads place; number = slice_index ups place }) ⊎ IsReplaced firsts heads ups rank place
+pub record IsTrimmed (firsts heads numbers : List ℕ) (rank : ℕ) (links : List Link) : Type 0 where
+  pub arcs : (link : Link) → Contains links link → IsLink firsts heads numbers rank link
+  pub rest : (place : ℕ) → IsFrom firsts rank place → Contains links (record { head = slice_index heads place; number = slice_index numbers place }) ⊎ IsReplaced firsts heads numbers rank place
 
 -- Each row has the arcs that are left of its rank.
 abbrev pub AreTrimmed : List ℕ → List ℕ → List ℕ → List Row → Type 0
-AreTrimmed firsts heads ups rows = (row : Row) → Contains rows row → IsTrimmed firsts heads ups row.rank row.links.items
+AreTrimmed firsts heads numbers rows = (row : Row) → Contains rows row → IsTrimmed firsts heads numbers row.rank row.links.items
 
 -- A number is the least of another and of those over links.
 pub record IsLeastBy (bound : ℕ → ℕ) (links : List Link) (reach least : ℕ) : Type 0 where

@@ -33,7 +33,12 @@ impl Bounds {
         ensures { AreBoundsTo prepared.now target self.new }
     {
         let rank = prepared.ranks[target as usize - 1];
-        self.cells.begin(&prepared.upward, &prepared.numbers, rank);
+        self.cells.begin(
+            &prepared.upward,
+            &prepared.numbers,
+            &prepared.trimmed_downs,
+            rank,
+        );
     }
 
     /// The bound of the travel time from a node to the target; none if no walk leads there.
@@ -53,7 +58,7 @@ impl Bounds {
         self.cells.descend(
             &prepared.upward,
             &prepared.numbers,
-            &prepared.trimmed,
+            &prepared.trimmed_ups,
             &mut self.path,
         );
         let bound = self.cells.list[rank as usize].bound;

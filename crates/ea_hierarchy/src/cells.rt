@@ -28,7 +28,7 @@ pub(crate) struct Cells {
 }
 
 impl Cells {
-    ghost use Rattle.ea_hierarchy.specs.Cells.{AreFound, AreReached, AreStale, FindsMore, IsBegun, IsFinal, IsPath, IsTopFound, IsWayFrom, LowersReach, RelaxesReach, cell_at, reach_of, worth_of};
+    ghost use Rattle.ea_hierarchy.specs.Cells.{AreFound, AreReached, AreStale, FindsMore, IsBegun, IsFinal, IsPath, IsTopFound, IsWayFrom, LowersReach, RelaxesLinks, RelaxesReach, cell_at, reach_of, worth_of};
     ghost use Rattle.ea_hierarchy.specs.Trimmed.{AreTrimmed, IsLeastBy};
     ghost use Rattle.ea_hierarchy.specs.declared.trimmed.Link.{Link};
 
@@ -93,8 +93,8 @@ impl Cells {
         };
     }
 
-    /// Reaches the heads of a rank over its arcs.
-    fn relax(&mut self, upward: &Upward, numbers: &Numbers, rank: u32)
+    /// Reaches the heads of a rank over all its arcs.
+    fn relax_arcs(&mut self, upward: &Upward, numbers: &Numbers, rank: u32)
         requires upward { AreUpward upward.now.firsts.items upward.now.heads.items }
         requires numbers { AreNumbers upward.now.heads.items numbers.now.ups.items
             numbers.now.downs.items }
@@ -113,11 +113,54 @@ impl Cells {
         }
     }
 
-    /// Reaches ranks downward from a target, on its path of lowest heads.
-    pub(crate) fn begin(&mut self, upward: &Upward, numbers: &Numbers, target: u32)
+    /// Reaches the heads of links from what is reached at their rank.
+    fn relax_links(&mut self, links: &[Link], reach: u32)
+        requires { (link : Link) → Contains links.now link → link.head < length self.old.list.items }
+        ensures stamp { self.new.stamp ≡ self.old.stamp }
+        ensures relaxes { RelaxesLinks self.old.stamp self.old.list.items self.new.list.items
+            links.now reach (length links.now) }
+    {
+        for link in links {
+            self.lower(link.head, plus(link.number, reach));
+        }
+    }
+
+    /// Reaches the heads of a rank over those of its arcs that are left.
+    fn relax(&mut self, upward: &Upward, numbers: &Numbers, trimmed: &Trimmed, rank: u32)
         requires upward { AreUpward upward.now.firsts.items upward.now.heads.items }
         requires numbers { AreNumbers upward.now.heads.items numbers.now.ups.items
             numbers.now.downs.items }
+        requires trimmed { AreTrimmed upward.now.firsts.items upward.now.heads.items
+            numbers.now.downs.items trimmed.now.rows.items }
+        requires rank { rank < length upward.now.firsts.items - 1 }
+        requires count { length self.old.list.items ≡ length upward.now.firsts.items - 1 }
+        ensures stamp { self.new.stamp ≡ self.old.stamp }
+        ensures relaxes { RelaxesReach upward.now.firsts.items upward.now.heads.items
+            numbers.now.downs.items self.old.stamp self.old.list.items self.new.list.items rank
+            (slice_index upward.now.firsts.items (rank + 1)) }
+    {
+        match trimmed.links(upward, rank) {
+            Some(links) => {
+                let reach = self.reach(rank);
+                self.relax_links(links, reach);
+            }
+            None => self.relax_arcs(upward, numbers, rank),
+        }
+    }
+
+    /// Reaches ranks downward from a target, on its path of lowest heads.
+    pub(crate) fn begin(
+        &mut self,
+        upward: &Upward,
+        numbers: &Numbers,
+        trimmed: &Trimmed,
+        target: u32,
+    )
+        requires upward { AreUpward upward.now.firsts.items upward.now.heads.items }
+        requires numbers { AreNumbers upward.now.heads.items numbers.now.ups.items
+            numbers.now.downs.items }
+        requires trimmed { AreTrimmed upward.now.firsts.items upward.now.heads.items
+            numbers.now.downs.items trimmed.now.rows.items }
         requires target { target < length upward.now.firsts.items - 1 }
         requires count { length self.old.list.items ≡ length upward.now.firsts.items - 1 }
         requires stamps { AreReached (self.old.stamp + 1) self.old.list.items }
@@ -128,7 +171,7 @@ impl Cells {
         self.lower(target, 0);
         let mut rank = target;
         loop {
-            self.relax(upward, numbers, rank);
+            self.relax(upward, numbers, trimmed, rank);
             let first = upward.firsts[rank as usize];
             if first >= upward.firsts[rank as usize + 1] {
                 return;

@@ -1,5 +1,5 @@
 //! Least travel times and their sums, in 32 bits.
-ghost use Rattle.std.specs.Prelude.{◌≡◌, ◌≤◌, ◌<◌, ◌^◌, min};
+ghost use Rattle.std.specs.Prelude.{◌≡◌, ◌≤◌, ◌<◌, ◌+◌, ◌^◌, min};
 ghost use Rattle.ea_hierarchy.specs.Numbers.{plus};
 
 /// No walk.
@@ -8,17 +8,14 @@ pub const NONE: u32 = u32::MAX;
 /// The greatest number of a walk: sums above it count as this.
 pub const MOST: u32 = u32::MAX - 1;
 
-/// The sum of two numbers, at most `MOST`; `NONE` if one of them is.
+/// The sum of two numbers that is above `MOST`, or of which one is `NONE`.
 #[tactic(auto, unfolding(crate::specs::Numbers::plus))]
-#[inline(always)]
-pub(crate) fn plus(first: u32, second: u32) -> u32
+#[cold]
+#[inline(never)]
+fn far(first: u32, second: u32) -> u32
+    requires { MOST < first + second }
     ensures { result ≡ plus first second }
 {
-    // Most sums are those of two walks, so one test comes first.
-    let sum = u64::from(first) + u64::from(second);
-    if sum <= u64::from(MOST) {
-        return sum as u32;
-    }
     if first == NONE {
         return NONE;
     }
@@ -26,6 +23,20 @@ pub(crate) fn plus(first: u32, second: u32) -> u32
         return NONE;
     }
     MOST
+}
+
+/// The sum of two numbers, at most `MOST`; `NONE` if one of them is.
+#[tactic(auto, unfolding(crate::specs::Numbers::plus))]
+#[inline(always)]
+pub(crate) fn plus(first: u32, second: u32) -> u32
+    ensures { result ≡ plus first second }
+{
+    // Nearly all sums are those of two walks, so one test comes first.
+    let sum = u64::from(first) + u64::from(second);
+    if sum <= u64::from(MOST) {
+        return sum as u32;
+    }
+    far(first, second)
 }
 
 /// A least travel time as a number of a walk.

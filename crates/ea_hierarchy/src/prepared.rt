@@ -28,7 +28,8 @@ pub struct Prepared {
     pub(crate) ranks: Vec<u32>,
     pub(crate) upward: Upward,
     pub(crate) numbers: Numbers,
-    pub(crate) trimmed: Trimmed,
+    pub(crate) trimmed_ups: Trimmed,
+    pub(crate) trimmed_downs: Trimmed,
     /// For each node whether it is on a chain.
     chains: Vec<bool>,
     /// How many nodes a search may scan in about half the time of a first bound.
@@ -57,7 +58,9 @@ impl Model for Prepared {
       downs = p.numbers.downs.items;
     })
         × AreTrimmed p.upward.firsts.items p.upward.heads.items p.numbers.ups.items
-        p.trimmed.rows.items };
+        p.trimmed_ups.rows.items
+        × AreTrimmed p.upward.firsts.items p.upward.heads.items p.numbers.downs.items
+        p.trimmed_downs.rows.items };
 }
 
 /// The upward arcs of a network over the ranks of its nodes; none if there are too many of them or of triangles.
@@ -177,13 +180,16 @@ impl Prepared {
         let numbers = numbers_for(alloc, network, times, &ranks, &upward)?;
         let chains = chains_of(alloc, network)?;
         let near = near_by(&upward);
-        let mut trimmed = Trimmed::none(alloc);
-        trimmed.fill(&upward, &numbers.ups)?;
+        let mut trimmed_ups = Trimmed::none(alloc);
+        trimmed_ups.fill(&upward, &numbers.ups)?;
+        let mut trimmed_downs = Trimmed::none(alloc);
+        trimmed_downs.fill(&upward, &numbers.downs)?;
         Ok(Prepared {
             ranks,
             upward,
             numbers,
-            trimmed,
+            trimmed_ups,
+            trimmed_downs,
             chains,
             near,
         })
@@ -200,7 +206,8 @@ impl Prepared {
         self.numbers.forget();
         cover(network, times, &self.ranks, &self.upward, &mut self.numbers);
         relax(&self.upward, &mut self.numbers);
-        let _ = self.trimmed.fill(&self.upward, &self.numbers.ups);
+        let _ = self.trimmed_ups.fill(&self.upward, &self.numbers.ups);
+        let _ = self.trimmed_downs.fill(&self.upward, &self.numbers.downs);
     }
 
     /// The number of nodes.

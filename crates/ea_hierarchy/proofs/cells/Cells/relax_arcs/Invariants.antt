@@ -1,6 +1,6 @@
 use Rattle.std.proofs.Common.{◌≡◌}
 use Rattle.ea_hierarchy.specs.Cells.{RelaxesReach}
-use Rattle.ea_hierarchy.proofs.cells.Cells.relax.Given as goal
+use Rattle.ea_hierarchy.proofs.cells.Cells.relax_arcs.Given as goal
 
 abbrev pub invariant-loop-place : goal.invariant-loop-place
 invariant-loop-place l = record {
