@@ -73,6 +73,7 @@ enum earliest_number {
     EARLIEST_ROOM_TOO_SMALL = 24, /* there is another room than the result takes */
     EARLIEST_BUSY = 25,           /* another call is in the search */
     EARLIEST_NOT_WORTH = 26,      /* the road isn't worth a preparation */
+    EARLIEST_NO_ORDER = 27,       /* a list is no order of the nodes: one is missing, or there twice */
     EARLIEST_BAD_LINE = 31,       /* a report's line is not what its place asks; 0 where it ends too early */
     EARLIEST_NOT_ATTAINED = 32,   /* a report's time or walk is not attained */
     EARLIEST_NOT_LEAST = 33,      /* a walk arrives before a report's time */
@@ -112,6 +113,10 @@ uint32_t earliest_road_arcs(earliest_road *road);
  * `prepared`; those made on `road`, queries to all nodes and searches for latest departures don't use it. Refusals: EARLIEST_NO_ROAD;
  * EARLIEST_NOT_WORTH if the road has too dense a core for searches to gain, as a large grid has; 13; `prepared` is as it was then. */
 uint32_t earliest_road_prepared(earliest_road *road, earliest_road *prepared);
+/* The same over an order of the nodes, each once, from the first that is passed over to the last: of METIS, KaHIP or InertialFlowCutter, say.
+ * Any order serves; a good one makes searches quick. It takes a fraction of the time, since no order is looked for, and one order serves
+ * roads with other weights and timetables. Refusals besides: EARLIEST_NO_ORDER if a node is missing or there twice. */
+uint32_t earliest_road_prepared_by(earliest_road *road, const uint32_t *order, size_t count, earliest_road *prepared);
 /* Lets a road go; `road` is EARLIEST_NOTHING then. Searches on it keep their shares and go on. */
 void earliest_road_free(earliest_road *road);
 
@@ -276,6 +281,7 @@ static inline const char *earliest_message(uint32_t number) {
     case EARLIEST_ROOM_TOO_SMALL: return "the room is not that of the result (24 RoomTooSmall)";
     case EARLIEST_BUSY: return "another call is in the search (25 Busy)";
     case EARLIEST_NOT_WORTH: return "the road is not worth a preparation (26 NotWorth)";
+    case EARLIEST_NO_ORDER: return "the list is no order of the nodes (27 NoOrder)";
     case EARLIEST_BAD_LINE: return "a line is not what its place asks (31 BadLine)";
     case EARLIEST_NOT_ATTAINED: return "a line is not attained (32 NotAttained)";
     case EARLIEST_NOT_LEAST: return "a line is not the least arrival (33 NotLeast)";

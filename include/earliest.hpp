@@ -255,6 +255,14 @@ public:
         EARLIEST_TEST_(earliest_road_prepared(&core_->handle, &made.core_->handle), earliest_fault{});
         return made.counted();
     }
+    /// The same over an order of the nodes, each once, from the first that is passed over to the last: a fraction of the time.
+    detail::returned<road> prepared(list<std::uint32_t> order) const {
+        EARLIEST_TEST_(core_ ? 0u : std::uint32_t{EARLIEST_NO_ROAD}, earliest_fault{});
+        road made(std::make_unique<core>());
+        std::lock_guard<std::mutex> alone(core_->lock);
+        EARLIEST_TEST_(earliest_road_prepared_by(&core_->handle, order.data(), order.size(), &made.core_->handle), earliest_fault{});
+        return made.counted();
+    }
     /// Checks a report of searches from these nodes; one that isn't right is refused with the line of its first fault.
     detail::returned<void> check(list<std::uint32_t> nodes, const earliest_starts &starts, std::string_view report) const {
         EARLIEST_TEST_(core_ ? 0u : std::uint32_t{EARLIEST_NO_ROAD}, earliest_fault{});

@@ -65,13 +65,16 @@ class Core:
                 test(library().earliest_road_turned(self.handle, self.turned))
             test(library().earliest_search_new_until(self.turned, 0, handle))
 
-    def prepare(self) -> None:
-        """Puts a preparation beside the road, for the searches that are made from now on."""
+    def prepare(self, order: Any) -> None:
+        """Puts a preparation beside the road, over an order of its nodes if there is one, for the searches that are made from now on."""
         with self.lock:
-            if self.prepared and not self.closed:
+            if self.prepared and order is None and not self.closed:
                 return
             prepared = Handle()
-            test(library().earliest_road_prepared(self.handle, prepared))
+            if order is None:
+                test(library().earliest_road_prepared(self.handle, prepared))
+            else:
+                test(library().earliest_road_prepared_by(self.handle, _numbers.address(order), len(order), prepared))
             self.handle, plain = prepared, self.handle
             library().earliest_road_free(plain)
             self.prepared = True

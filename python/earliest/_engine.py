@@ -137,7 +137,7 @@ class Road:
         """This road without names: its calls and answers speak of nodes by their numbers from 1."""
         return self._over(self._core, None, self._edges, self._places)
 
-    def prepare(self) -> "Road":
+    def prepare(self, order: Any = None) -> "Road":
         """Prepares this road, in place, for searches of pairs: far pairs take a fraction of the time, with the same arrivals. Returns the road.
 
         It takes seconds for 10^6 nodes, in which other threads wait for the road, and it pays from some hundred far pairs on. `pairs`,
@@ -145,8 +145,12 @@ class Road:
         `numbered` give share it, and copies, which are the road itself. A pickle leaves it out: call `prepare` in the other process.
         A second call does nothing. A road whose searches wouldn't gain is a Failure (26 NotWorth) and stays as it was, and want of memory a
         MemoryError.
+
+        `order` is an order of the nodes, each once, from the first that is passed over to the last, as a program for nested dissection finds
+        it. Any serves, and a good one makes searches quick. None is looked for then, which is most of the time, and one order serves roads
+        with other weights and timetables. A list without a node or with one twice is a Failure (27 NoOrder).
         """
-        self._core.prepare()
+        self._core.prepare(None if order is None else self._list(order))
         return self
 
     # What it is

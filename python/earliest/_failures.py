@@ -6,7 +6,7 @@ from typing import Any, Optional
 NAMES = {
     1: "NoProblemLine", 2: "SecondProblemLine", 3: "UnknownLine", 4: "FieldCount", 5: "BadNumber", 6: "OutOfRange", 7: "TooManyLines",
     8: "TooFewLines", 9: "BadKind", 13: "OutOfMemory", 16: "NoRoad", 17: "NoSearch", 18: "NoSuchNode", 19: "BeyondHorizon",
-    20: "NotAsked", 21: "NoWalks", 22: "NotReached", 23: "LengthsDiffer", 24: "RoomTooSmall", 25: "Busy", 26: "NotWorth", 31: "BadLine",
+    20: "NotAsked", 21: "NoWalks", 22: "NotReached", 23: "LengthsDiffer", 24: "RoomTooSmall", 25: "Busy", 26: "NotWorth", 27: "NoOrder", 31: "BadLine",
     32: "NotAttained", 33: "NotLeast", 35: "NotCanonical",
 }
 """The name of each number, as in earliest.h."""
@@ -33,6 +33,7 @@ MEANINGS = {
     24: "the room is not that of the result",
     25: "another thread is in a call with this search",
     26: "the road is not worth a preparation",
+    27: "the list is no order of the nodes: one is missing, or there twice",
     31: "a line is not what its place asks",
     32: "a line is not attained",
     33: "a line is not the least arrival",

@@ -432,6 +432,24 @@ static int long_path(uint32_t arcs) {
 /* A road and the same road prepared: a square of streets of which each has a class by chance, with timetables. The pairs of
  * the prepared one have the arrivals and walks of the other, and all other calls are the same. */
 enum { SIDE = 40 };
+/* Prepares a road over orders, and makes a search on the last; lists that are no order are refused, and the handle is as it was. */
+static int prepared_by(earliest_road *road, earliest_road *led, uint32_t nodes, uint32_t *order, earliest_search *search) {
+    earliest_road empty = EARLIEST_NOTHING;
+    for (uint32_t at = 0; at < nodes; at++) order[at] = nodes - at;
+    TEST(earliest_road_prepared_by(&empty, order, nodes, led) == EARLIEST_NO_ROAD && earliest_road_prepared_by(road, order, nodes - 1, &empty) == EARLIEST_NO_ORDER);
+    order[7] = order[8];
+    TEST(earliest_road_prepared_by(road, order, nodes, &empty) == EARLIEST_NO_ORDER && empty.at == NULL);
+    order[7] = 0;
+    TEST(earliest_road_prepared_by(road, order, nodes, led) == EARLIEST_NO_ORDER && earliest_road_nodes(led) == nodes);
+    order[7] = nodes + 1;
+    TEST(earliest_road_prepared_by(road, order, nodes, led) == EARLIEST_NO_ORDER && earliest_road_prepared_by(road, NULL, 0, led) == EARLIEST_NO_ORDER);
+    order[7] = nodes - 7;
+    TEST(earliest_road_prepared_by(road, order, nodes, led) == 0 && earliest_road_nodes(led) == nodes);
+    for (uint32_t at = 0; at < nodes; at++) order[at] = (at % SIDE) * (nodes / SIDE) + at / SIDE + 1;
+    TEST(earliest_road_prepared_by(road, order, nodes, led) == 0 && earliest_road_nodes(led) == nodes);
+    return earliest_search_new(led, 1, search) != 0;
+}
+
 static int prepared(void) {
     static const char tp[] = "p tp 2 0\nk 1 every 60 7\nk 2 speeds 86400 3\nv 0 1000\nv 24000 250\nv 36000 1000\n";
     static uint32_t tails[4 * SIDE * SIDE], heads[4 * SIDE * SIDE], weights[4 * SIDE * SIDE], classes[4 * SIDE * SIDE], walks[2][SIDE * SIDE];
@@ -461,6 +479,7 @@ static int prepared(void) {
     TEST(earliest_search_new_until(&turned, 0, &until) == 0 && earliest_search_pair_until(&until, 1, nodes, 30000) == 0);
     TEST(earliest_search_new_until(&led, 0, &until) == EARLIEST_NO_ROAD);
     TEST(earliest_search_new(&led, 1, &searches[1]) == 0);
+    TEST(prepared_by(&road, &led, nodes, walks[0], &searches[1]) == 0);
     earliest_road_free(&road), earliest_road_free(&empty), earliest_road_free(&led);
     for (int i = 0; i < 2; i++) {
         TEST(earliest_search_from(&searches[i], &from, 1, &departure, 1) == 0 && earliest_search_arrivals(&searches[i], arrivals[i], nodes) == 0);

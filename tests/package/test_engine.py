@@ -170,6 +170,25 @@ class Answers(Case):
             self.assertEqual(after.pair(sources[0], departures[0], targets[0]), None if want[0] == NEVER else want[0])
             self.refused(16, road.prepare)
 
+    def test_a_road_that_is_prepared_over_an_order(self):
+        for net in self.networks:
+            sources, targets = ([it % 40 + 1 for it in range(at, at + 120)] for at in (0, 13))
+            departures = [7 * it for it in range(120)]
+            want = [net.least([(source, departure)])[target - 1] for source, target, departure in zip(sources, targets, departures)]
+            names = [f"n{node}" for node in range(1, 41)]
+            for order in (range(1, 41), [*range(40, 0, -1)], [node * 7 % 41 for node in range(1, 41)]):
+                road = earliest.Road(net.gr(), net.tp())
+                self.assertTrue(road.prepare(order).prepared)
+                self.assertEqual(flat(road.pairs(sources, targets, departures)), want)
+                # It is prepared anew, over names, too, and over an order that is looked for.
+                self.assertEqual(flat(road.named(names).prepare(names[::-1]).numbered.pairs(sources, targets, departures)), want)
+                self.assertEqual(flat(earliest.Road(net.gr(), net.tp()).prepare().prepare(order).pairs(sources, targets, departures)), want)
+            road = earliest.Road(net.gr(), net.tp())
+            for order in ([], range(1, 40), [*range(1, 40), 39], [1] * 40, [*range(1, 41), 1]):
+                self.refused(27, lambda: road.prepare(order))
+            self.refused(18, lambda: road.prepare([*range(40)]))
+            self.assertEqual((road.prepared, flat(road.pairs(sources, targets, departures))), (False, want))
+
     def test_a_road_that_is_not_worth_a_preparation(self):
         net = plain.network(3, 4000, 16000, ())
         road = earliest.Road(net.gr())

@@ -1,9 +1,10 @@
 -- Prepared roads, and the outcomes of the call that makes them.
-use Rattle.std.specs.Prelude.{◌≡◌, ◌⊎◌, ℕ, Option, Some, None}
+use Rattle.std.specs.Prelude.{◌≡◌, ◌⊎◌, ℕ, List, Option, Some, None}
 use Rattle.ea_hierarchy.specs.Hierarchies.{Hierarchy}
+use Rattle.ea_hierarchy.specs.Orders.{IsOrder}
 use Rattle.ea_hierarchy.specs.Preparations.{IsPreparedFor}
 use Rattle.ea_hierarchy.specs.declared.unprepared.Unprepared.{Unprepared}
-use Rattle.ea_hierarchy.specs.declared.unprepared.Unprepared.TheVariants.{NotWorth, OutOfMemory}
+use Rattle.ea_hierarchy.specs.declared.unprepared.Unprepared.TheVariants.{NoOrder, NotWorth, OutOfMemory}
 use Rattle.ea_load.specs.Posed.{times_on}
 use Rattle.ea_load.specs.declared.road.Road.{Road}
 use Rattle.ea_capi.specs.declared.handle.content.Content.{Content}
@@ -22,6 +23,7 @@ preparation_in (Some content.Away) = None
 -- The number of why a road isn't prepared.
 abbrev pub unprepared_number : Unprepared → ℕ
 unprepared_number NotWorth = 26
+unprepared_number NoOrder = 27
 unprepared_number OutOfMemory = 13
 
 -- The content is this road, and has a preparation of it.
@@ -31,7 +33,7 @@ pub record IsRoadPrepared (road : Road) (content : Option Content) : Type 0 wher
   pub there : preparation_in content ≡ Some hierarchy
   pub fits : IsPreparedFor road.network (times_on road) hierarchy
 
--- The road is worth no preparation, or memory was refused.
+-- The road is worth no preparation, or a list is no order of its nodes, or memory was refused.
 abbrev pub IsUnprepared : ℕ → Type 0
 IsUnprepared number = (why : Unprepared) × (number ≡ unprepared_number why)
 
@@ -40,7 +42,13 @@ abbrev pub IsPreparedOf : Option Road → Content → Type 0
 IsPreparedOf None content = ⊥
 IsPreparedOf (Some road) content = IsRoadPrepared road (Some content)
 
--- The handle holds the road prepared; or it is unchanged, as there is no road, or it is not worth it, or memory was refused.
+-- A list is an order of the road's nodes.
+abbrev pub IsOrderOf : Option Road → List ℕ → Type 0
+IsOrderOf None order = ⊥
+IsOrderOf (Some road) order = IsOrder road.network.nodes order
+
+-- The handle holds the road prepared; or it is unchanged, as there is no road, or it is not worth it, or a list is no order, or memory was
+-- refused.
 abbrev pub IsPrepared : Option Road → Option Content → Option Content → ℕ → Type 0
 IsPrepared None old new number = (number ≡ 16) × (new ≡ old)
 IsPrepared (Some road) old new number = (IsRoadPrepared road new × (number ≡ 0)) ⊎ ((new ≡ old) × IsUnprepared number)

@@ -33,6 +33,8 @@ pub const ROOM_TOO_SMALL: u32 = 24;
 // 25 is the header's: it refuses a second call in a search before the library is called.
 /// The road isn't worth a preparation.
 pub const NOT_WORTH: u32 = 26;
+/// The list is no order of the nodes.
+pub const NO_ORDER: u32 = 27;
 
 /// The fault of a text that a caller passed.
 #[repr(C)]

@@ -12,3 +12,4 @@ pub mod Bounding
 pub mod Paths
 pub mod Consistent
 pub mod Trimming
+pub mod Ordering

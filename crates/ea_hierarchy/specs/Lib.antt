@@ -7,3 +7,4 @@ pub mod Potentials
 pub mod Cells
 pub mod Bounds
 pub mod Trimmed
+pub mod Orders

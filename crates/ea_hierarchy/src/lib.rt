@@ -21,4 +21,5 @@ pub use bounds::Bounds;
 pub use ea_road::OutOfMemory;
 pub use numbers::{MOST, NONE};
 pub use prepared::Prepared;
+pub use ranks::is_order;
 pub use unprepared::Unprepared;

@@ -1,8 +1,10 @@
-ghost use Rattle.std.specs.Prelude.{◌≡◌, ◌≤◌, ◌<◌, ◌+◌, ◌-◌, ◌^◌, ℕ, IfOk, IfSome, length};
+ghost use Rattle.std.specs.Prelude.{◌≡◌, ◌≤◌, ◌<◌, ◌+◌, ◌-◌, ◌^◌, ℕ, IfErr, IfOk, IfSome, length};
 ghost use Rattle.ea_road.specs.Roads.{IsNode, top_class};
 ghost use Rattle.ea_hierarchy.specs.Growth.{AreJoined};
 ghost use Rattle.ea_hierarchy.specs.Hierarchies.{AreNumbers, AreRanks, AreUpward, IsHierarchy, rank_of};
+ghost use Rattle.ea_hierarchy.specs.Orders.{IsOrder};
 ghost use Rattle.ea_hierarchy.specs.Preparations.{IsPreparedFor, IsPreparedOver};
+ghost use Rattle.ea_hierarchy.specs.declared.unprepared.Unprepared.TheVariants.{NoOrder};
 
 use crate::chains::chains_of;
 use crate::cover::cover;
@@ -10,7 +12,7 @@ use crate::customize::{Numbers, relax};
 use crate::numbers::NONE;
 use crate::order::eliminate_all;
 use crate::postorder::in_postorder;
-use crate::ranks::ranks_of;
+use crate::ranks::{is_order, ranks_of};
 use crate::trimmed::Trimmed;
 use crate::unprepared::Unprepared;
 use crate::upward::{Limits, Upward, mean_arcs_above, upward_of};
@@ -32,7 +34,7 @@ pub struct Prepared {
     pub(crate) trimmed_downs: Trimmed,
     /// For each node whether it is on a chain.
     chains: Vec<bool>,
-    /// How many nodes a search may scan in about half the time of a first bound.
+    /// How many nodes a search may scan in about a quarter of the time of a first bound.
     near: u32,
 }
 
@@ -97,10 +99,10 @@ fn limits_of(network: &Network) -> Limits {
 /// The least number of nodes that are near.
 const LEAST_NEAR: u64 = 512;
 
-/// How many upward arcs are gone in half the time that a search scans a node in.
-const ARCS_A_NODE: u64 = 64;
+/// How many upward arcs on a way up there are for each of them.
+const ARCS_A_NODE: u64 = 256;
 
-/// How many nodes a search may scan in about half the time of a first bound.
+/// How many nodes a search may scan in about a quarter of the time of a first bound.
 fn near_by(upward: &Upward) -> u32 {
     let nodes = mean_arcs_above(upward) / ARCS_A_NODE;
     nodes.max(LEAST_NEAR).min(u64::from(NONE)) as u32
@@ -152,18 +154,19 @@ impl Prepared {
         times: &T,
     ) -> Result<Prepared, Unprepared>
         requires { top_class network.now.arcs ≤ T.classes times.now }
-        ensures { IfOk result (IsPreparedFor network.now (T.answers times.now)) }
+        ensures prepared { IfOk result (IsPreparedFor network.now (T.answers times.now)) }
+        ensures refused { IfErr result (λ why. why ≡ NoOrder → ⊥) }
     {
         let Some(elimination) = eliminate_all(alloc, network, limits_of(network))? else {
             return Err(Unprepared::NotWorth);
         };
         let order = in_postorder(alloc, &elimination)?;
         drop(elimination);
-        Prepared::with_order(alloc, network, times, &order)
+        Prepared::over(alloc, network, times, &order)
     }
 
-    /// A preparation of a network over an order of its nodes: any permutation serves. `NotWorth` comes if there
-    /// are too many upward arcs or triangles for the network's size, `OutOfMemory` if memory was refused.
+    /// A preparation of a network over an order of its nodes: any permutation serves. `NoOrder` comes if the list is none, `NotWorth` if
+    /// there are too many upward arcs or triangles for the network's size, `OutOfMemory` if memory was refused.
     pub fn with_order<T: TravelTimes>(
         alloc: Global,
         network: &Network,
@@ -171,7 +174,26 @@ impl Prepared {
         order: &[u32],
     ) -> Result<Prepared, Unprepared>
         requires { top_class network.now.arcs ≤ T.classes times.now }
-        ensures { IfOk result (IsPreparedFor network.now (T.answers times.now)) }
+        ensures prepared { IfOk result (IsPreparedFor network.now (T.answers times.now)) }
+        ensures order { IfOk result (λ prepared. IsOrder network.now.nodes order.now) }
+        ensures refused { IfErr result (λ why. why ≡ NoOrder → IsOrder network.now.nodes order.now → ⊥) }
+    {
+        if !is_order(alloc, network.nodes(), order)? {
+            return Err(Unprepared::NoOrder);
+        }
+        Prepared::over(alloc, network, times, order)
+    }
+
+    /// A preparation of a network over any list.
+    fn over<T: TravelTimes>(
+        alloc: Global,
+        network: &Network,
+        times: &T,
+        order: &[u32],
+    ) -> Result<Prepared, Unprepared>
+        requires { top_class network.now.arcs ≤ T.classes times.now }
+        ensures prepared { IfOk result (IsPreparedFor network.now (T.answers times.now)) }
+        ensures refused { IfErr result (λ why. why ≡ NoOrder → ⊥) }
     {
         let ranks = ranks_of(alloc, network.nodes(), order)?;
         let Some(upward) = upward_over(alloc, network, &ranks)? else {
@@ -226,7 +248,14 @@ impl Prepared {
         }
     }
 
-    /// How many nodes a search may scan in about half the time that the first bound to a target takes.
+    /// How many upward arcs bounds need no look at, since two others replace them, in both directions together.
+    pub fn left_out(&self) -> u64 {
+        self.trimmed_ups
+            .left_out
+            .saturating_add(self.trimmed_downs.left_out)
+    }
+
+    /// How many nodes a search may scan in about a quarter of the time that the first bound to a target takes.
     pub fn near(&self) -> u32 {
         self.near
     }

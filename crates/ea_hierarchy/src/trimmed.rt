@@ -32,6 +32,8 @@ pub(crate) struct Trimmed {
     alloc: Global,
     hints: Vec<usize>,
     rows: Vec<Row>,
+    /// How many arcs are in no row of their ranks.
+    pub(crate) left_out: u64,
 }
 
 /// Whether the arc at a place and the one at another from its head replace a later arc of its rank.
@@ -131,6 +133,7 @@ impl Trimmed {
             alloc,
             hints: Vec::new(alloc),
             rows: Vec::new(alloc),
+            left_out: 0,
         }
     }
 
@@ -156,13 +159,17 @@ impl Trimmed {
         ensures { AreTrimmed upward.now.firsts.items upward.now.heads.items ups.now
             self.new.rows.items }
     {
+        self.left_out = 0;
         self.rows.clear();
         self.hints.clear();
         self.hints.resize(upward.heads.len() / LONG + 1, 0)?;
         for rank in 0..upward.firsts.len() - 1 {
             let begin = upward.firsts[rank] as usize;
-            if upward.firsts[rank + 1] as usize - begin >= LONG {
+            let arcs = upward.firsts[rank + 1] as usize - begin;
+            if arcs >= LONG {
                 let links = links_of(self.alloc, upward, ups, rank as u32)?;
+                let more = arcs.saturating_sub(links.len()) as u64;
+                self.left_out = self.left_out.saturating_add(more);
                 self.add(rank as u32, begin, links)?;
             }
         }

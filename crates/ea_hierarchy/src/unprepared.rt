@@ -11,6 +11,9 @@ pub enum Unprepared {
     /// There are too many upward arcs or triangles for the network's size: searches wouldn't gain by them.
     #[error("the network is not worth a preparation")]
     NotWorth,
+    /// The list that was given is no order of the nodes: one is missing, or there twice.
+    #[error("the list is no order of the nodes")]
+    NoOrder,
     /// Memory was refused.
     #[error("there is not enough memory (13 OutOfMemory)")]
     OutOfMemory,

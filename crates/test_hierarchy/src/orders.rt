@@ -240,3 +240,47 @@ fn cliques(rt: HostRuntime) -> Result<(), Fail> {
     assert_right(&rt, count, 6);
     Ok(())
 }
+
+/// A rank of many arcs has a row of those that are left.
+#[test]
+fn cliques_with_many_arcs_a_rank(rt: HostRuntime) -> Result<(), Fail> {
+    let count = over_shape(rt.alloc(), Shape::Clique, 160).map_err(|_| "prepared")?;
+    assert_right(&rt, count, 6);
+    Ok(())
+}
+
+/// How many arcs a preparation of a clique leaves out; none if it is none.
+fn left_out_of_clique(alloc: Global, nodes: u32) -> Result<Option<u64>, Unprepared> {
+    let Some(network) = network_of_shape(alloc, Shape::Clique, nodes)? else {
+        return Ok(None);
+    };
+    let Some(times) = times_of_all_kinds(alloc)? else {
+        return Ok(None);
+    };
+    if network.top_class() as usize > times.classes() {
+        return Ok(None);
+    }
+    let order = in_turn(alloc, nodes)?;
+    let mut prepared = Prepared::with_order(alloc, &network, &times, &order)?;
+    let once = prepared.left_out();
+    prepared.customize(&network, &times);
+    if prepared.left_out() != once {
+        return Ok(None);
+    }
+    Ok(Some(once))
+}
+
+#[test]
+fn short_rows_are_left_whole(rt: HostRuntime) -> Result<(), Fail> {
+    let left_out = left_out_of_clique(rt.alloc(), 128).map_err(|_| "prepared")?;
+    assert_eq!(rt; left_out, Some(0));
+    Ok(())
+}
+
+#[test]
+fn arcs_that_others_replace_are_left_out(rt: HostRuntime) -> Result<(), Fail> {
+    // The lowest of 129 nodes has 128 arcs each way, of 0 to 6, and most have two others that are no longer.
+    let left_out = left_out_of_clique(rt.alloc(), 129).map_err(|_| "prepared")?;
+    assert!(rt; left_out > Some(128) && left_out < Some(256));
+    Ok(())
+}

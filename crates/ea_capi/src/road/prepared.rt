@@ -1,12 +1,14 @@
 //! Roads with a preparation for searches of pairs.
-ghost use Rattle.std.specs.Prelude.{◌≡◌, IfErr, IfOk, MatchOption, Some};
+ghost use Rattle.std.specs.Prelude.{◌≡◌, ◌≢◌, IfErr, IfOk, MatchOption, Some};
 ghost use Rattle.std.specs.Arc.{arc_value};
+ghost use Rattle.ea_hierarchy.specs.Orders.{IsOrder};
 ghost use Rattle.ea_hierarchy.specs.Preparations.{IsPreparedFor};
+ghost use Rattle.ea_hierarchy.specs.declared.unprepared.Unprepared.TheVariants.{NoOrder};
 ghost use Rattle.ea_load.specs.Posed.{times_on};
-ghost use Rattle.ea_capi.specs.Prepared.{IsPrepared, IsPreparedOf, IsRoadPrepared, IsUnprepared, unprepared_number};
+ghost use Rattle.ea_capi.specs.Prepared.{IsOrderOf, IsPrepared, IsPreparedOf, IsRoadPrepared, IsUnprepared, unprepared_number};
 ghost use Rattle.ea_capi.specs.States.{road_in};
 
-use crate::fault_numbers::{DONE, NO_ROAD, NOT_WORTH, OUT_OF_MEMORY};
+use crate::fault_numbers::{DONE, NO_ORDER, NO_ROAD, NOT_WORTH, OUT_OF_MEMORY};
 use crate::handle::content::Content;
 use crate::handle::handle::Handle;
 use crate::handle::share::Share;
@@ -21,6 +23,7 @@ fn number_of(why: Unprepared) -> u32
 {
     match why {
         Unprepared::NotWorth => NOT_WORTH,
+        Unprepared::NoOrder => NO_ORDER,
         Unprepared::OutOfMemory => OUT_OF_MEMORY,
     }
 }
@@ -39,21 +42,32 @@ fn boxed(
     Ok(Box::new(alloc, Content::Road(Share::with(terrain, prepared)))?)
 }
 
-/// A preparation of a road.
-fn preparation_of(alloc: Global, terrain: &Terrain) -> Result<Prepared, Unprepared>
-    ensures { IfOk result (IsPreparedFor terrain.now.road.network (times_on terrain.now.road)) }
-{
-    Prepared::of(alloc, &terrain.road.network, &terrain.road.times)
-}
-
-/// A road with a preparation, in a new box.
+/// A road with a preparation, or the refusal's number.
 fn prepared_road(
     alloc: Global,
     terrain: &Arc<Terrain, Global>,
 ) -> Result<Box<Content, Global>, Unprepared>
-    ensures { IfOk result (λ it. IsRoadPrepared (arc_value terrain.now).road (Some it.value)) }
+    ensures made { IfOk result (λ it. IsRoadPrepared (arc_value terrain.now).road (Some it.value)) }
+    ensures refused { IfErr result (λ why. why ≡ NoOrder → ⊥) }
 {
-    let prepared = preparation_of(alloc, terrain)?;
+    let prepared = Prepared::of(alloc, &terrain.road.network, &terrain.road.times)?;
+    let terrain = Arc::try_clone(terrain)?;
+    Ok(boxed(alloc, terrain, prepared)?)
+}
+
+/// A road with a preparation over an order of its nodes.
+fn road_by_order(
+    alloc: Global,
+    terrain: &Arc<Terrain, Global>,
+    order: &[u32],
+) -> Result<Box<Content, Global>, Unprepared>
+    ensures made { IfOk result (λ it. IsRoadPrepared (arc_value terrain.now).road (Some it.value)) }
+    ensures order { IfOk result (λ it. IsOrder (arc_value terrain.now).road.network.nodes order.now) }
+    ensures refused { IfErr result (λ why. why ≡ NoOrder
+        → IsOrder (arc_value terrain.now).road.network.nodes order.now → ⊥) }
+{
+    let prepared =
+        Prepared::with_order(alloc, &terrain.road.network, &terrain.road.times, order)?;
     let terrain = Arc::try_clone(terrain)?;
     Ok(boxed(alloc, terrain, prepared)?)
 }
@@ -63,9 +77,32 @@ fn prepared_of(alloc: Global, content: &Content) -> Result<Box<Content, Global>,
     ensures made { IfOk result (λ it. IsPreparedOf (road_in (Some content.now)) it.value) }
     ensures refused { IfErr result (λ number.
         MatchOption (road_in (Some content.now)) (number ≡ 16) (λ _. IsUnprepared number)) }
+    ensures no_order { IfErr result (λ number. number ≢ 27) }
 {
     match content {
         Content::Road(share) => match prepared_road(alloc, share.terrain()) {
+            Ok(found) => Ok(found),
+            Err(why) => Err(number_of(why)),
+        },
+        _ => Err(NO_ROAD),
+    }
+}
+
+/// The road of a content with a preparation over an order, or the refusal's number.
+fn prepared_by(
+    alloc: Global,
+    content: &Content,
+    order: &[u32],
+) -> Result<Box<Content, Global>, u32>
+    ensures made { IfOk result (λ it. IsPreparedOf (road_in (Some content.now)) it.value) }
+    ensures refused { IfErr result (λ number.
+        MatchOption (road_in (Some content.now)) (number ≡ 16) (λ _. IsUnprepared number)) }
+    ensures order { IfOk result (λ it. IsOrderOf (road_in (Some content.now)) order.now) }
+    ensures no_order { IfErr result (λ number. number ≡ 27
+        → IsOrderOf (road_in (Some content.now)) order.now → ⊥) }
+{
+    match content {
+        Content::Road(share) => match road_by_order(alloc, share.terrain(), order) {
             Ok(found) => Ok(found),
             Err(why) => Err(number_of(why)),
         },
@@ -86,11 +123,43 @@ pub extern "C" fn earliest_road_prepared(
 ) -> u32
     ensures same { road.new.value ≡ road.old.value }
     ensures made { IsPrepared (road_in road.old.value) prepared.old.value prepared.new.value result }
+    ensures no_order { result ≢ 27 }
 {
     let Some(content) = road.take(alloc) else {
         return NO_ROAD;
     };
     let made = prepared_of(alloc, &content);
+    road.put(content);
+    match made {
+        Ok(found) => {
+            prepared.put(found);
+            DONE
+        }
+        Err(number) => number,
+    }
+}
+
+/// Prepares a road over an order of its nodes, from the first that is passed over to the last: any order serves, and a good one, as by
+/// nested dissection, makes searches quick. So a road with other weights is prepared over the order of another.
+///
+/// The handle `prepared` is as after `earliest_road_prepared`. Returns 27 if the list is no order of the nodes: one is missing, or there
+/// twice. If the call doesn't return 0, the handle is unchanged.
+#[unsafe(no_mangle)]
+pub extern "C" fn earliest_road_prepared_by(
+    alloc: Global,
+    road: &mut Handle,
+    order: &[u32],
+    prepared: &mut Handle,
+) -> u32
+    ensures same { road.new.value ≡ road.old.value }
+    ensures made { IsPrepared (road_in road.old.value) prepared.old.value prepared.new.value result }
+    ensures order { result ≡ 0 → IsOrderOf (road_in road.old.value) order.now }
+    ensures no_order { result ≡ 27 → IsOrderOf (road_in road.old.value) order.now → ⊥ }
+{
+    let Some(content) = road.take(alloc) else {
+        return NO_ROAD;
+    };
+    let made = prepared_by(alloc, &content, order);
     road.put(content);
     match made {
         Ok(found) => {
