@@ -1,3 +1,4 @@
+pub mod Taken
 pub mod Steps
 pub mod Cuts
 pub mod Joined

@@ -3,12 +3,12 @@ use Rattle.std.proofs.Common.{◌≡◌, ℕ, ◌<◌, List, [], ◌++◌, lengt
 use Rattle.std.specs.Prelude.{IfSome, Option, None}
 use Rattle.std.specs.Io.KnownBytes.{IsAtEnd}
 use Rattle.ea_bytes.specs.Device.{Seen}
-use Rattle.ea_bytes.specs.Outcome.{FaultCounts}
-use Rattle.ea_bytes.specs.Taking.{GoesOnTaking, IsTakenBy, StopsTaking}
-use Rattle.ea_bytes.proofs.Taken.{all_taken, from_start, was_borne, within_limit}
-use Rattle.ea_bytes.specs.declared.blocks.Blocks.{Blocks}
-use Rattle.ea_bytes.specs.declared.blocks.ReadFault.{ReadFault}
-use Rattle.ea_bytes.specs.declared.blocks.ReadFault.TheVariants.{TooLarge}
+use Rattle.ea_blocks.specs.Outcome.{FaultCounts}
+use Rattle.ea_blocks.specs.Taking.{GoesOnTaking, IsTakenBy, StopsTaking}
+use Rattle.ea_blocks.proofs.Taken.{all_taken, from_start, was_borne, within_limit}
+use Rattle.ea_blocks.specs.declared.blocks.Blocks.{Blocks}
+use Rattle.ea_blocks.specs.declared.blocks.ReadFault.{ReadFault}
+use Rattle.ea_blocks.specs.declared.blocks.ReadFault.TheVariants.{TooLarge}
 use Rattle.ea_blocks.specs.Reading.{lines_after}
 use Rattle.ea_blocks.specs.Streams.{EndsLine, FeedsOn, HasFed, IsUnderway, IsWhole}
 use Rattle.ea_blocks.proofs.Cuts.{both_end, nothing_ends}

@@ -1,3 +1,5 @@
+pub mod Outcome
+pub mod Taking
 pub mod Fault
 pub mod Reading
 pub mod Borrowed

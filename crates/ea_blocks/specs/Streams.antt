@@ -2,12 +2,12 @@
 use Rattle.std.specs.Prelude.{◌≡◌, ◌⊎◌, ◌≤◌, ◌<◌, ℕ, List, ◌++◌, length, ◌+◌, Bool, false, true, Option, Some, None, IfSome, IfOk, IfErr, OnOk, Result, Ok, Err}
 use Rattle.std.specs.Io.KnownBytes.{IsAtEnd}
 use Rattle.ea_bytes.specs.Device.{Seen, BearsOn}
-use Rattle.ea_bytes.specs.Outcome.{FaultCounts}
+use Rattle.ea_blocks.specs.Outcome.{FaultCounts}
 use Rattle.ea_bytes.specs.Text.{lines_of, field_lines}
-use Rattle.ea_bytes.specs.Taking.{GoesOnTaking, HasRoom, IsTakenBy, StopsTaking}
-use Rattle.ea_bytes.specs.declared.blocks.Blocks.{Blocks}
-use Rattle.ea_bytes.specs.declared.blocks.ReadFault.{ReadFault}
-use Rattle.ea_bytes.specs.declared.blocks.ReadFault.TheVariants.{TooLarge}
+use Rattle.ea_blocks.specs.Taking.{GoesOnTaking, HasRoom, IsTakenBy, StopsTaking}
+use Rattle.ea_blocks.specs.declared.blocks.Blocks.{Blocks}
+use Rattle.ea_blocks.specs.declared.blocks.ReadFault.{ReadFault}
+use Rattle.ea_blocks.specs.declared.blocks.ReadFault.TheVariants.{TooLarge}
 use Rattle.ea_blocks.specs.Fault.{Gives, out_of_memory}
 use Rattle.ea_blocks.specs.Reading.{lines_after, text_after}
 use Rattle.ea_blocks.specs.declared.fault.FaultKind.{FaultKind}

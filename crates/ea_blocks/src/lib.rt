@@ -1,12 +1,14 @@
 //! A device's text, read block by block and line by line by one or several threads, up to its first fault.
 #![tactic(auto)]
 
+mod blocks;
 mod fault;
 mod line_reader;
 mod pieces;
 mod reading_plan;
 mod stream;
 
+pub use blocks::{Blocks, ReadFault, read_all};
 pub use fault::{FaultKind, InputFault};
 pub use line_reader::{LineReader, read_text};
 pub use pieces::BlockReader;

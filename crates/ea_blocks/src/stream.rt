@@ -3,12 +3,13 @@
 ghost use Rattle.std.specs.Prelude.{◌≡◌, ◌<◌, ◌+◌, ◌^◌, ◌++◌, IfSome, length};
 ghost use Rattle.ea_blocks.specs.Reading.{text_after};
 ghost use Rattle.ea_blocks.specs.Streams.{EndsLine, FeedsOn, Finishes, GivesWhole, IsFilled};
-ghost use Rattle.ea_bytes.specs.Taking.{HasRoom};
+ghost use Rattle.ea_blocks.specs.Taking.{HasRoom};
 
+use crate::blocks::{Blocks, ReadFault};
 use crate::fault::{InputFault, fault_in};
 use crate::pieces::{BlockReader, end_of_lines, read_more};
 use crate::reading_plan::Way;
-use ea_bytes::{Blocks, ByteIn, ReadFault};
+use ea_bytes::ByteIn;
 use std::alloc::Global;
 use std::mem;
 use std::thread::Threads;

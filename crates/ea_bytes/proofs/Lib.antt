@@ -1,3 +1,2 @@
 pub mod Cutting
 pub mod Numbers
-pub mod Taken

@@ -9,13 +9,13 @@ use std::io::{Error, ErrorKind};
 
 /// The faults of a device so far.
 #[derive(Clone, Copy)]
-pub(crate) struct Counts {
+pub struct Counts {
     pub failures: u64,
     pub interruptions: u64,
 }
 
 /// No faults yet.
-pub(crate) fn no_faults() -> Counts
+pub fn no_faults() -> Counts
     ensures { (result.failures ≡ 0) × (result.interruptions ≡ 0) }
 {
     Counts {
@@ -43,7 +43,7 @@ impl Counts {
 }
 
 /// The fault for an error of std.
-pub(crate) fn fault_of(error: &Error) -> DeviceFault
+pub fn fault_of(error: &Error) -> DeviceFault
     ensures { result ≡ fault_by (error_kind error.now) }
 {
     match error.kind() {

@@ -4,7 +4,7 @@ use Rattle.std.proofs.lemmas.List.{take-append-drop}
 use Rattle.std.specs.Prelude.{Option, Some, None, if◌then◌else◌}
 use Rattle.ea_base.specs.declared.direction.Direction.{Direction}
 use Rattle.ea_bytes.specs.Device.{Seen}
-use Rattle.ea_bytes.specs.Taking.{HasRoom}
+use Rattle.ea_blocks.specs.Taking.{HasRoom}
 use Rattle.ea_bytes.specs.Text.{field_lines, fields_of}
 use Rattle.ea_check.specs.declared.form.report_lines.ReportLines.{ReportLines}
 use Rattle.ea_check.specs.Ahead.{HasPassed, IsAhead, ReadsAhead}

@@ -1,7 +1,7 @@
 -- Reading that stops, as part of a longer one.
 use Rattle.std.proofs.Common.{ℕ, List, ◌++◌, refl}
 use Rattle.ea_bytes.specs.Device.{Seen}
-use Rattle.ea_bytes.specs.Taking.{HasRoom}
+use Rattle.ea_blocks.specs.Taking.{HasRoom}
 use Rattle.ea_check.specs.declared.form.report_lines.ReportLines.{ReportLines}
 use Rattle.ea_check.specs.declared.form.stop.Stop.{Stop}
 use Rattle.ea_check.specs.declared.form.stop.Stop.TheVariants.{Device, Report}

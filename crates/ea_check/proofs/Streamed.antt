@@ -3,11 +3,11 @@ use Rattle.std.proofs.Common.{◌≡◌, ◌∙◌, refl, Bool, true, false, ℕ
 use Rattle.std.proofs.lemmas.Bool.{false≢true}
 use Rattle.std.specs.Prelude.{IfErr, OnOk, Result, Ok, Err, Some, None, if◌then◌else◌}
 use Rattle.ea_base.specs.declared.direction.Direction.{Direction}
-use Rattle.ea_bytes.proofs.Taken.{all_taken, was_borne, within_limit}
+use Rattle.ea_blocks.proofs.Taken.{all_taken, was_borne, within_limit}
 use Rattle.ea_bytes.specs.Device.{Seen}
-use Rattle.ea_bytes.specs.Taking.{IsStopped, IsTakenBy, StopsTaking}
+use Rattle.ea_blocks.specs.Taking.{IsStopped, IsTakenBy, StopsTaking}
 use Rattle.ea_bytes.specs.Text.{field_lines, fields_of}
-use Rattle.ea_bytes.specs.declared.blocks.ReadFault.{ReadFault}
+use Rattle.ea_blocks.specs.declared.blocks.ReadFault.{ReadFault}
 use Rattle.ea_road.specs.declared.source.Source.{Source}
 use Rattle.ea_road.specs.Roads.{Roads}
 use Rattle.ea_check.specs.declared.fault.CheckFault.{CheckFault}

@@ -8,14 +8,14 @@ use Rattle.std.specs.Io.KnownBytes.{IsAtEnd}
 use Rattle.memchr.specs.Find.{IsFirstByte, is_byte}
 use Rattle.std.specs.Prelude.{if◌then◌else◌, IsTrue, MatchOption, Option, Some, None}
 use Rattle.ea_bytes.proofs.Cutting.{feed_at, lines_at, lines_end, no_feed}
-use Rattle.ea_bytes.proofs.Taken.{at_most_taken, was_borne}
+use Rattle.ea_blocks.proofs.Taken.{at_most_taken, was_borne}
 use Rattle.ea_base.specs.declared.direction.Direction.{Direction}
 use Rattle.ea_bytes.specs.Device.{Seen}
-use Rattle.ea_bytes.specs.Taking.{GoesOnTaking, HasRoom, IsTakenBy, StopsTaking}
+use Rattle.ea_blocks.specs.Taking.{GoesOnTaking, HasRoom, IsTakenBy, StopsTaking}
 use Rattle.ea_bytes.specs.Text.{field_lines, fields_of, is_silent, lines_of}
-use Rattle.ea_bytes.specs.declared.blocks.Blocks.{Blocks}
-use Rattle.ea_bytes.specs.declared.blocks.ReadFault.{ReadFault}
-use Rattle.ea_bytes.specs.declared.blocks.ReadFault.TheVariants.{OutOfMemory}
+use Rattle.ea_blocks.specs.declared.blocks.Blocks.{Blocks}
+use Rattle.ea_blocks.specs.declared.blocks.ReadFault.{ReadFault}
+use Rattle.ea_blocks.specs.declared.blocks.ReadFault.TheVariants.{OutOfMemory}
 use Rattle.ea_check.specs.declared.form.report_lines.ReportLines.{ReportLines}
 use Rattle.ea_check.specs.Form.{Line, spoken_from}
 use Rattle.ea_check.specs.Streams.{BeginsWithLine, Leads, TakesLine, rest_of}

@@ -4,7 +4,7 @@ use Rattle.ea_road.specs.declared.source.Source.{Source}
 use Rattle.ea_road.specs.Roads.{Roads}
 use Rattle.ea_base.specs.declared.direction.Direction.{Direction}
 use Rattle.ea_bytes.specs.Device.{Seen}
-use Rattle.ea_bytes.specs.Taking.{StopsTaking}
+use Rattle.ea_blocks.specs.Taking.{StopsTaking}
 use Rattle.ea_check.specs.declared.fault.CheckFault.{CheckFault}
 use Rattle.ea_check.specs.declared.form.report_lines.ReportLines.{ReportLines}
 use Rattle.ea_check.specs.declared.form.stop.Stop.{Stop}

@@ -1,7 +1,7 @@
 -- Why reading a report stopped.
 use Rattle.std.specs.Prelude.{ℕ, List}
 use Rattle.ea_bytes.specs.Device.{Seen}
-use Rattle.ea_bytes.specs.Taking.{StopsTaking}
+use Rattle.ea_blocks.specs.Taking.{StopsTaking}
 use Rattle.ea_check.specs.declared.form.report_lines.ReportLines.{ReportLines}
 use Rattle.ea_check.specs.declared.form.stop.Stop.{Stop}
 use Rattle.ea_check.specs.declared.form.stop.Stop.TheVariants.{Device, Report}

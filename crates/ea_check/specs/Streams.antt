@@ -3,7 +3,7 @@ use Rattle.std.specs.Prelude.{◌≡◌, ℕ, ◌+◌, ◌-◌, ◌<◌, ◌≤�
 use Rattle.std.specs.Io.KnownBytes.{IsAtEnd}
 use Rattle.ea_base.specs.declared.direction.Direction.{Direction}
 use Rattle.ea_bytes.specs.Device.{Seen, BearsOn}
-use Rattle.ea_bytes.specs.Taking.{HasRoom, IsTakenBy}
+use Rattle.ea_blocks.specs.Taking.{HasRoom, IsTakenBy}
 use Rattle.ea_bytes.specs.Text.{field_lines, fields_of, lines_of}
 use Rattle.ea_check.specs.declared.form.report_lines.ReportLines.{ReportLines}
 use Rattle.ea_check.specs.declared.form.report_lines.SpokenLine.{SpokenLine}

@@ -1,7 +1,7 @@
 //! Whether a report is right.
 ghost use Rattle.std.specs.Prelude.{◌≡◌, ◌↔◌, ℕ, Err, IfErr, IfOk, IsTrue, List, None, MatchResult, OnOk};
 ghost use Rattle.std.specs.Io.KnownBytes.{IsAtEnd};
-ghost use Rattle.ea_bytes.specs.Taking.{IsStopped};
+ghost use Rattle.ea_blocks.specs.Taking.{IsStopped};
 ghost use Rattle.std.specs.List.{IsAmong};
 ghost use Rattle.ea_road.specs.Queries.{Asking, IsProblem};
 ghost use Rattle.ea_check.specs.Checked.{IsChecked, sources_of, AreCheckable};
@@ -25,7 +25,8 @@ use crate::judge::verdict::{judge, judge_parts, judge_parts_by};
 use crate::team::{Alone, Several, Team};
 use crate::text_in::TextIn;
 use ea_base::{Direction, Silent, Watch};
-use ea_bytes::{ByteIn, ReadFault};
+use ea_blocks::ReadFault;
+use ea_bytes::ByteIn;
 use ea_road::{Network, Query, is_problem};
 use ea_travel_times::TravelTimes;
 use std::alloc::Global;

@@ -2,8 +2,8 @@
 use crate::files::{Sources, Unopened};
 use crate::harmless::shown_word;
 use crate::source::{SHOWN, Source};
-use ea_blocks::InputFault;
-use ea_bytes::{ReadFault, without_return};
+use ea_blocks::{InputFault, ReadFault};
+use ea_bytes::without_return;
 use ea_check::CheckFault;
 use ea_load::{AnswerFault, FileWord};
 use ea_messages::{Outcome, fault_named, look_of, reason_of, wanted_of_line};

@@ -1,7 +1,8 @@
-//! The program's surroundings: its words, the files that they name, the output of its report, its messages.
+//! A command, from its words to its exit status: its files, its call, its output, its messages.
 #![tactic(auto)]
 
 mod arguments;
+mod command_runs;
 mod descriptors;
 mod explanations;
 mod files;
@@ -11,13 +12,7 @@ mod output;
 mod pages;
 mod progress_line;
 mod source;
+mod stored_run;
 mod target;
 
-pub use arguments::words_of;
-pub use descriptors::{Held, hold_descriptors};
-pub use files::{Names, Sources, Unopened, names_of, open_all, open_output};
-pub use messages::{refuse, tell, tell_end, tell_unopened};
-pub use output::Output;
-pub use pages::{explain_fault, show_text};
-pub use progress_line::{Line, tells_progress};
-pub use source::Source;
+pub use command_runs::run;

@@ -1,4 +1,7 @@
 //! The line about a command's outcome, and its exit status.
+ghost use Rattle.std.specs.Prelude.{◌≡◌};
+ghost use Rattle.ea_cli.specs.Outcomes.{outcome_by};
+
 use crate::explanations::{explain_outcome, explain_unopened, explain_words, explain_write};
 use crate::files::{Sources, Unopened};
 use crate::harmless::{shown_lines, shown_word};
@@ -8,6 +11,7 @@ use ea_bytes::StdOut;
 use ea_load::AnswerFault;
 use ea_messages::{Outcome, say};
 use ea_options::CommandFault;
+use earliest::Performed;
 
 /// The status if the output can't be written and no reader is left for the line that says so.
 const LEFT: u8 = 4;
@@ -56,16 +60,28 @@ pub fn tell_unopened(rt: &HostRuntime, unopened: &Unopened<'_>, explains: bool) 
     status
 }
 
+/// The outcome to report; none if the report or the rank errors were written whole.
+fn outcome_of(performed: Result<Performed, AnswerFault>) -> Option<Outcome>
+    ensures { result ≡ outcome_by performed }
+{
+    match performed {
+        Ok(Performed::Reported(_) | Performed::Ranked) => None,
+        Ok(Performed::Checked(Ok(()))) => Some(Outcome::Accepted),
+        Ok(Performed::Checked(Err(fault))) => Some(Outcome::Check(fault)),
+        Err(fault) => Some(Outcome::Answer(fault)),
+    }
+}
+
 /// Writes the outcome of a command that had files, and returns the status. If there is nothing to write, a whole report is put in
 /// its place.
 pub fn tell_end(
     rt: &HostRuntime,
-    outcome: Option<Outcome>,
+    performed: Result<Performed, AnswerFault>,
     sources: &mut Sources<'_>,
     output: &mut Output,
     explains: bool,
 ) -> u8 {
-    let Some(outcome) = outcome else {
+    let Some(outcome) = outcome_of(performed) else {
         return tell_put(rt, output, explains);
     };
     let reason = output.refusal;

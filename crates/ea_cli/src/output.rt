@@ -2,13 +2,15 @@
 ghost use Rattle.std.specs.Prelude.{◌≤◌, IfOk, length};
 
 use crate::target::{Goal, goal_of};
+use ea_bytes::{ByteOut, Counts, Device, DeviceFault, fault_of, no_faults};
 use std::fs::{self, File};
 use std::io::{self, ErrorKind, Write};
 
-/// What takes a report, and what its fault may be explained by.
+/// The device that takes a report, and what its fault may be explained by.
 #[derive(Drop)]
 pub struct Output {
     goal: Goal,
+    counts: Counts,
     /// How many bytes it took.
     pub(crate) written: u128,
     /// Why the last write failed.
@@ -19,6 +21,7 @@ impl Output {
     fn to(goal: Goal) -> Output {
         Output {
             goal,
+            counts: no_faults(),
             written: 0,
             refusal: None,
         }
@@ -120,21 +123,33 @@ fn write_to(goal: &mut Goal, buf: &[u8]) -> io::Result<usize>
     }
 }
 
-impl Write for Output {
-    fn write(&mut self, buf: &[u8]) -> io::Result<usize> {
+impl Device for Output {
+    ghost use Rattle.std.specs.Prelude.{None};
+    ghost use Rattle.ea_bytes.specs.Device.{Seen};
+
+    ghost seen = { λ o. record { bytes = None; failed = o.counts.failures; interrupted = o.counts.interruptions } };
+
+    fn failures(&self) -> u64 {
+        self.counts.failures
+    }
+
+    fn interruptions(&self) -> u64 {
+        self.counts.interruptions
+    }
+}
+
+impl ByteOut for Output {
+    fn write(&mut self, buf: &[u8]) -> Result<usize, DeviceFault> {
         match write_to(&mut self.goal, buf) {
-            Ok(count) => {
+            Ok(count) if count > 0 || buf.is_empty() => {
                 self.written = self.written.saturating_add(count as u128);
                 Ok(count)
             }
+            Ok(_) => Err(self.counts.count(DeviceFault::Failed)),
             Err(error) => {
                 self.refusal = Some(error.kind());
-                Err(error)
+                Err(self.counts.count(fault_of(&error)))
             }
         }
-    }
-
-    fn flush(&mut self) -> io::Result<()> {
-        Ok(())
     }
 }

@@ -10,7 +10,7 @@ use std::alloc::{AllocError, Global};
 /// gone.
 pub fn show_text(rt: &HostRuntime, text: &str) -> u8 {
     let mut output = Output::standard(rt);
-    match show(text, &mut StdOut::new(&mut output)) {
+    match show(text, &mut output) {
         Ok(()) => 0,
         Err(_) if output.is_left() => 4,
         Err(fault) => say(&Outcome::Answer(fault), &mut StdOut::new(rt.stderr())),

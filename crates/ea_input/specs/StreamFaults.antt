@@ -1,9 +1,9 @@
 -- Why the text of a device gave nothing.
 use Rattle.std.specs.Prelude.{◌≡◌, ◌<◌, ℕ, List, length, IfSome}
 use Rattle.ea_bytes.specs.Device.{Seen}
-use Rattle.ea_bytes.specs.Outcome.{FaultCounts}
+use Rattle.ea_blocks.specs.Outcome.{FaultCounts}
 use Rattle.ea_bytes.specs.Text.{field_lines}
-use Rattle.ea_bytes.specs.declared.blocks.ReadFault.TheVariants.{TooLarge}
+use Rattle.ea_blocks.specs.declared.blocks.ReadFault.TheVariants.{TooLarge}
 use Rattle.ea_blocks.specs.Streams.{IsWhole}
 use Rattle.ea_blocks.specs.declared.stream.StreamFault.{StreamFault}
 use Rattle.ea_blocks.specs.declared.stream.StreamFault.TheVariants.{Read, Input}

@@ -14,10 +14,8 @@ mod times;
 mod timetable;
 
 pub use ea_base::{RawArc, RawGraph, RawKind, RawTable};
-pub use ea_blocks::{FaultKind, InputFault, StreamFault, Way};
-pub use ea_bytes::{
-    ByteIn, ByteOut, Device, DeviceFault, ReadFault, StdIn, StdOut, number, read_all,
-};
+pub use ea_blocks::{FaultKind, InputFault, ReadFault, StreamFault, Way, read_all};
+pub use ea_bytes::{ByteIn, ByteOut, Device, DeviceFault, StdIn, StdOut, number};
 pub use graph::{graph_law, read_gr, read_gr_by, read_gr_from};
 pub use pairs::{pair_law, read_p2p, read_p2p_from};
 pub use sources::{read_ss, read_ss_from, source_law};

@@ -3,8 +3,8 @@ use Rattle.std.specs.Prelude.{◌≡◌, ◌⊎◌, ℕ, ◌<◌, ◌≤◌, Lis
 use Rattle.ea_base.specs.declared.limits.TheConstants.{MOST_BYTES}
 use Rattle.ea_bytes.specs.Device.{Seen, BearsOn, GivesUp}
 use Rattle.ea_bytes.specs.Text.{field_lines}
-use Rattle.ea_bytes.specs.declared.blocks.ReadFault.{ReadFault}
-use Rattle.ea_bytes.specs.declared.blocks.ReadFault.TheVariants.{TooLarge, ReadFailed, OutOfMemory as no_memory}
+use Rattle.ea_blocks.specs.declared.blocks.ReadFault.{ReadFault}
+use Rattle.ea_blocks.specs.declared.blocks.ReadFault.TheVariants.{TooLarge, ReadFailed, OutOfMemory as no_memory}
 use Rattle.ea_input.specs.Checks.{Format, IsFaultOf}
 use Rattle.ea_input.specs.Formats.{graph_format, source_format, table_format, time_format}
 use Rattle.ea_input.specs.Graph.{Graph, DenotesGraph}

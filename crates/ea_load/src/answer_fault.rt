@@ -2,8 +2,7 @@
 ghost use Rattle.std.specs.Prelude.{◌≡◌};
 
 use crate::{FileFault, FileWord};
-use ea_blocks::InputFault;
-use ea_bytes::ReadFault;
+use ea_blocks::{InputFault, ReadFault};
 use std::alloc::AllocError;
 use thiserror::Error;
 

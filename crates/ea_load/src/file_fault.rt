@@ -2,8 +2,7 @@
 ghost use Rattle.std.specs.Prelude.{◌≡◌, Some};
 ghost use Rattle.ea_load.specs.FileNames.{file_word};
 
-use ea_blocks::InputFault;
-use ea_bytes::ReadFault;
+use ea_blocks::{InputFault, ReadFault};
 use std::alloc::AllocError;
 use std::fmt;
 use thiserror::Error;

@@ -13,8 +13,8 @@ ghost use Rattle.ea_load.specs.Given.{IsTableOf, no_table as none_given};
 
 use crate::file_fault::{FileFault, FileWord};
 use ea_base::{MOST_BYTES, RawGraph, RawTable};
-use ea_blocks::{FaultKind, InputFault};
-use ea_bytes::{ByteIn, ReadFault, read_all};
+use ea_blocks::{FaultKind, InputFault, ReadFault, read_all};
+use ea_bytes::ByteIn;
 use ea_input::{read_gr, read_ss, read_times, read_tp};
 use std::alloc::Global;
 

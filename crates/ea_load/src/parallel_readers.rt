@@ -155,8 +155,8 @@ fn road_of_by<H: Threads + Sync>(
 {
     let nodes = graph.nodes;
     let arcs = directed_arcs(classed_arcs(alloc, graph, &table)?, direction);
-    let tables = Timetables::with_steps(alloc, table.kinds, table.steps)?;
     let network = Network::of_list_by(alloc, rt, nodes, arcs)?;
+    let tables = Timetables::with_steps(alloc, table.kinds, table.steps)?;
     Ok(Road {
         network,
         times: RoadTimes { tables, direction },

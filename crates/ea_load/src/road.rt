@@ -58,8 +58,8 @@ pub(crate) fn road_of(
 {
     let nodes = graph.nodes;
     let arcs = directed_arcs(classed_arcs(alloc, graph, &table)?, direction);
-    let tables = Timetables::with_steps(alloc, table.kinds, table.steps)?;
     let network = Network::of_list(alloc, nodes, arcs)?;
+    let tables = Timetables::with_steps(alloc, table.kinds, table.steps)?;
     Ok(Road {
         network,
         times: RoadTimes { tables, direction },

@@ -3,9 +3,9 @@ use Rattle.std.specs.Prelude.{ℕ, ◌+◌, ◌-◌, ◌^◌, ◌≤◌, true, L
 use Rattle.std.specs.List.{flat_map}
 use Rattle.std.specs.Io.KnownBytes.{Appends}
 use Rattle.ea_base.specs.declared.limits.TheConstants.{MOST_INTERRUPTIONS}
-use Rattle.ea_bytes.specs.Outcome.{fault_number, fault_name}
-use Rattle.ea_bytes.specs.declared.blocks.ReadFault.{ReadFault}
-use Rattle.ea_bytes.specs.declared.blocks.ReadFault.TheVariants as read
+use Rattle.ea_blocks.specs.Outcome.{fault_number, fault_name}
+use Rattle.ea_blocks.specs.declared.blocks.ReadFault.{ReadFault}
+use Rattle.ea_blocks.specs.declared.blocks.ReadFault.TheVariants as read
 use Rattle.ea_blocks.specs.FaultNames.{kind_number, kind_name}
 use Rattle.ea_load.specs.declared.file_fault.FileWord.{FileWord}
 use Rattle.ea_blocks.specs.declared.fault.FaultKind.{FaultKind}

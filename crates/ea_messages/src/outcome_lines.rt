@@ -4,8 +4,8 @@ ghost use Rattle.std.specs.List.{flat_map};
 ghost use Rattle.ea_messages.specs.Said;
 ghost use Rattle.ea_messages.specs.Said.{IsSaid, IsShown, IsUnshown, asked_text, line_of, status_of, plain_line, file_line, text_line, written_line, check_line, command_line, command_status, answer_line, answer_status, input_line, input_status, read_line, read_status, refused_line, refused_status};
 
-use ea_blocks::{FaultKind, InputFault};
-use ea_bytes::{ByteOut, ReadFault};
+use ea_blocks::{FaultKind, InputFault, ReadFault};
+use ea_bytes::ByteOut;
 use ea_check::CheckFault;
 use ea_load::{AnswerFault, FileWord};
 use ea_options::CommandFault;

@@ -10,8 +10,8 @@ use Rattle.ea_check.specs.Checked.{IsChecked, sources_of}
 use Rattle.ea_check.specs.Form.{report_lines}
 use Rattle.ea_check.specs.Streams.{IsWholeText, most_bytes}
 use Rattle.ea_base.specs.declared.direction.Direction.{Direction}
-use Rattle.ea_bytes.specs.Taking.{IsStopped}
-use Rattle.ea_bytes.specs.declared.blocks.ReadFault.{ReadFault}
+use Rattle.ea_blocks.specs.Taking.{IsStopped}
+use Rattle.ea_blocks.specs.declared.blocks.ReadFault.{ReadFault}
 use Rattle.ea_road.specs.Roads.{Roads}
 use Rattle.ea_road.specs.declared.source.Source.{Source}
 use Rattle.ea_check.specs.declared.fault.CheckFault.{CheckFault}

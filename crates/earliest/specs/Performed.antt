@@ -5,8 +5,6 @@ use Rattle.ea_load.specs.Files.{Reading, reading}
 use Rattle.ea_load.specs.Asked.{Files, files_of, IsAnswered, IsFailed}
 use Rattle.ea_load.specs.declared.answer_fault.AnswerFault.{AnswerFault}
 use Rattle.ea_messages.specs.declared.opened.Opened.{Opened}
-use Rattle.ea_messages.specs.declared.outcome_lines.Outcome.{Outcome}
-use Rattle.ea_messages.specs.declared.outcome_lines.Outcome.TheVariants.{Accepted, Answer, Check as Refused}
 use Rattle.ea_rank_command.specs.Ranks.{no_extras, rank_asks}
 use Rattle.ea_options.specs.declared.options.Command.{Command}
 use Rattle.ea_options.specs.declared.options.Command.TheVariants.{Run, Pairs, Rank, Check}
@@ -51,11 +49,3 @@ IsPerformed (Check gr ss tp times name options) on first now (Ok (Checked verdic
 IsPerformed (Check gr ss tp times name options) on first now (Err fault) =
     (now ≡ first) × IsCheckedBy (λ report. IsUnjudged options on.files report fault) on.report_old on.report_new
 IsPerformed _ on first now _ = ⊥
-
--- The outcome that is reported: none if everything was written, the verdict of a check, or a fault.
-abbrev pub outcome_by : Result Performed AnswerFault → Option Outcome
-outcome_by (Ok (Reported totals)) = None
-outcome_by (Ok Ranked) = None
-outcome_by (Ok (Checked (Ok done))) = Some Accepted
-outcome_by (Ok (Checked (Err fault))) = Some (Refused fault)
-outcome_by (Err fault) = Some (Answer fault)

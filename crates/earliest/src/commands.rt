@@ -1,8 +1,7 @@
 //! The effect of each command, given its files.
-ghost use Rattle.std.specs.Prelude.{◌≡◌};
 ghost use Rattle.ea_options.specs.Limits.{HasLimits};
 ghost use Rattle.ea_messages.specs.Named.{HasFiles};
-ghost use Rattle.earliest.specs.Performed.{IsPerformed, outcome_by, performed_on};
+ghost use Rattle.earliest.specs.Performed.{IsPerformed, performed_on};
 
 use crate::answers::{answer_watched, pairs_watched};
 use crate::checks::check_watched;
@@ -10,7 +9,7 @@ use ea_base::Watch;
 use ea_bytes::{ByteIn, ByteOut};
 use ea_check::CheckFault;
 use ea_load::AnswerFault;
-use ea_messages::{Opened, Outcome};
+use ea_messages::Opened;
 use ea_options::Command;
 use ea_rank_command::rank_watched;
 use ea_report::Totals;
@@ -107,17 +106,5 @@ pub fn perform<H: Threads + Sync, R: ByteIn, W: ByteOut, V: Watch>(
             }
         }
         Command::Stored | Command::Explain { .. } | Command::Formats => unreachable!(),
-    }
-}
-
-/// The outcome to report; none if the report or the rank errors were written whole.
-pub fn outcome_of(performed: Result<Performed, AnswerFault>) -> Option<Outcome>
-    ensures { result ≡ outcome_by performed }
-{
-    match performed {
-        Ok(Performed::Reported(_) | Performed::Ranked) => None,
-        Ok(Performed::Checked(Ok(()))) => Some(Outcome::Accepted),
-        Ok(Performed::Checked(Err(fault))) => Some(Outcome::Check(fault)),
-        Err(fault) => Some(Outcome::Answer(fault)),
     }
 }

@@ -12,7 +12,7 @@ mod totals;
 
 pub use answers::{answer, answer_pairs};
 pub use checks::check_report;
-pub use commands::{Performed, outcome_of, perform};
+pub use commands::{Performed, perform};
 pub use ea_base::{Direction, Silent, Watch};
 pub use ea_check::CheckFault;
 pub use ea_load::{AnswerFault, FileFault, FileWord, OptionalFiles};

@@ -2,8 +2,8 @@
 ghost use Rattle.std.specs.Prelude.{◌≤◌};
 ghost use Rattle.ea_options.specs.Limits.{AreOptions};
 
-use ea_blocks::{FaultKind, InputFault};
-use ea_bytes::{ReadFault, StdIn, StdOut};
+use ea_blocks::{FaultKind, InputFault, ReadFault};
+use ea_bytes::{StdIn, StdOut};
 use earliest::{
     AnswerFault, CheckFault, Direction, FileWord, OptionalFiles, RunOptions, check_report,
     rank_report,

@@ -1,7 +1,7 @@
 //! Devices that fail, and faults in their order.
 use crate::asked::{DEFAULTS, FROM_ONE, GRAPH, Texts, from_one, holds, run, run_pairs};
-use ea_blocks::{FaultKind, InputFault};
-use ea_bytes::{ReadFault, StdIn, StdOut};
+use ea_blocks::{FaultKind, InputFault, ReadFault};
+use ea_bytes::{StdIn, StdOut};
 use earliest::{AnswerFault, FileWord, OptionalFiles, RunOptions, Totals, answer};
 use std::io::{self, Error, ErrorKind, Read};
 

@@ -1,7 +1,7 @@
 //! The lines and statuses of outcomes.
 use crate::asked::holds;
-use ea_blocks::{FaultKind, InputFault};
-use ea_bytes::{ReadFault, StdOut};
+use ea_blocks::{FaultKind, InputFault, ReadFault};
+use ea_bytes::StdOut;
 use earliest::{AnswerFault, CheckFault, CommandFault, FileFault, FileWord, Outcome, say};
 use std::alloc::Global;
 use std::test::Fail;

@@ -2,7 +2,8 @@
 use crate::asserts::{assert_none_wrong, assert_that};
 use CheckFault::{BadLine, NotAttained, NotCanonical, NotLeast};
 use ea_base::{Direction, HORIZON, Silent};
-use ea_bytes::{ReadFault, StdIn};
+use ea_blocks::ReadFault;
+use ea_bytes::StdIn;
 use ea_check::*;
 use ea_road::{Network, Query};
 use ea_travel_times::{Timetables, Turned};

@@ -1,7 +1,7 @@
 //! The lines of a report, found one after another as the bytes of its device come.
 ghost use Rattle.std.specs.Prelude.{◌≡◌, ◌+◌, ◌<◌, ◌≤◌, ◌↔◌, ◌∷◌, [], IfErr, IfOk, IfSome, IsTrue, MatchOption, None, OnOk, Some, drop, false, length, take, true};
 ghost use Rattle.std.specs.Str.Lines.{strip_carriage_return};
-ghost use Rattle.ea_bytes.specs.Taking.{HasRoom, IsStopped, StopsTaking};
+ghost use Rattle.ea_blocks.specs.Taking.{HasRoom, IsStopped, StopsTaking};
 ghost use Rattle.ea_bytes.specs.Text.{fields_of, is_silent, lines_of};
 ghost use Rattle.ea_check.specs.Ahead.{HasPassed, IsAhead};
 ghost use Rattle.ea_check.specs.Streams.{Begins, BeginsWithLine, FindsLine, HasLast, IsReady, IsSound, IsUnread, Leads, Skips, TakesLine, behind, last_of, line_of, most_bytes, rest_of, size_left, spoken};
@@ -9,7 +9,8 @@ ghost use Rattle.ea_check.specs.Streams.{Begins, BeginsWithLine, FindsLine, HasL
 use crate::form::ahead::{Ahead, take_ahead};
 use crate::team::Team;
 use ea_base::Direction;
-use ea_bytes::{Blocks, ByteIn, ReadFault, first_field, is_comment, without_return};
+use ea_blocks::{Blocks, ReadFault};
+use ea_bytes::{ByteIn, first_field, is_comment, without_return};
 use memchr::memchr;
 use std::alloc::{AllocError, Global};
 use std::mem;

@@ -1,7 +1,7 @@
 //! Why reading a report stopped.
 
 use crate::fault::CheckFault;
-use ea_bytes::ReadFault;
+use ea_blocks::ReadFault;
 
 /// Why reading a report stopped.
 #[derive(Clone, Copy)]

@@ -1,6 +1,6 @@
 use Rattle.std.proofs.Common.{◌≡◌, ◌+◌, true, if◌then◌else◌}
 use Rattle.std.specs.Io.KnownBytes.{IsAtEnd}
-use Rattle.ea_bytes.specs.Taking.{HasRoom}
+use Rattle.ea_blocks.specs.Taking.{HasRoom}
 use Rattle.ea_blocks.specs.Streams.{IsUnderway}
 use Rattle.ea_blocks.proofs.stream.read_device.Given as goal
 

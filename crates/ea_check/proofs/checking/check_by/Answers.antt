@@ -1,7 +1,7 @@
 use Rattle.std.proofs.Common.{subst}
 use Rattle.std.proofs.lemmas.Result.{err_from_is_err_and}
 use Rattle.std.specs.Prelude.{Result}
-use Rattle.ea_bytes.specs.Taking.{StopsTaking}
+use Rattle.ea_blocks.specs.Taking.{StopsTaking}
 use Rattle.ea_check.specs.declared.form.stop.Stop.{Stop}
 use Rattle.ea_check.specs.Checked.{IsChecked, sources_of}
 use Rattle.ea_check.specs.Judging.{JudgesTo}

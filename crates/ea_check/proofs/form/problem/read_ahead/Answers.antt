@@ -1,7 +1,7 @@
 use Rattle.std.proofs.Common.{◌≡◌, ◌∙◌, ℕ, ◌+◌, List, ◌∷◌, ◌++◌, length, ap, arith, sym, subst}
 use Rattle.std.proofs.lemmas.Result.{err_from_is_err_and}
-use Rattle.ea_bytes.specs.declared.blocks.Blocks.{Blocks}
-use Rattle.ea_bytes.specs.Taking.{StopsTaking}
+use Rattle.ea_blocks.specs.declared.blocks.Blocks.{Blocks}
+use Rattle.ea_blocks.specs.Taking.{StopsTaking}
 use Rattle.ea_check.specs.declared.form.stop.Stop.{Stop}
 use Rattle.ea_check.specs.Reads.{NodeWrong, ReadsNodes}
 use Rattle.ea_check.specs.Runs.{saids}

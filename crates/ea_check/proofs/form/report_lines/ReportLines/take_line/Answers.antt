@@ -1,6 +1,6 @@
 use Rattle.std.proofs.Common.{◌≡◌, ◌∙◌, ℕ, ◌+◌, ◌-◌, ◌<◌, ◌≤◌, List, ap, arith, drop, length, length-drop, true}
 use Rattle.std.proofs.lemmas.Result.{err_from_is_err_and}
-use Rattle.ea_bytes.specs.declared.blocks.Blocks.{Blocks}
+use Rattle.ea_blocks.specs.declared.blocks.Blocks.{Blocks}
 use Rattle.ea_check.specs.Streams.{TakesLine, last_of, rest_of}
 use Rattle.ea_check.proofs.Streaming.{falls, leads_here, leads_same, stops_on, takes_first, takes_last}
 use Rattle.ea_check.proofs.form.report_lines.ReportLines.take_line.Goals as goal

@@ -1,6 +1,7 @@
 //! The built-in run, which is done without words.
-use ea_bytes::{StdIn, StdOut};
-use ea_cli::{Output, tell};
+use crate::messages::tell;
+use crate::output::Output;
+use ea_bytes::StdIn;
 use earliest::{AnswerFault, Direction, OptionalFiles, Outcome, RunOptions, answer};
 use std::io::IsTerminal;
 use std::thread::Threads;
@@ -44,7 +45,7 @@ pub fn stored<H: Threads + Sync>(rt: &HostRuntime, threads: &H) -> u8 {
         &mut ss,
         &mut others,
         &DEFAULTS,
-        &mut StdOut::new(&mut output),
+        &mut output,
     );
     match answered {
         Ok(_) => {

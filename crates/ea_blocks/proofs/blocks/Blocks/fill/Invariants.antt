@@ -1,6 +1,6 @@
 use Rattle.std.proofs.Common.{◌≡◌, ◌+◌, ◌-◌, length}
-use Rattle.ea_bytes.specs.Taking.{GoesOnTaking, HasRoom}
-use Rattle.ea_bytes.proofs.blocks.Blocks.fill.Given as goal
+use Rattle.ea_blocks.specs.Taking.{GoesOnTaking, HasRoom}
+use Rattle.ea_blocks.proofs.blocks.Blocks.fill.Given as goal
 
 abbrev pub invariant-loop-self : goal.invariant-loop-self
 invariant-loop-self g l = record {

@@ -1,6 +1,6 @@
 use Rattle.std.proofs.Common.{◌∙◌}
-use Rattle.ea_bytes.proofs.Taken.{goes_on, stops}
-use Rattle.ea_bytes.proofs.blocks.Blocks.fill.Goals as goal
+use Rattle.ea_blocks.proofs.Taken.{goes_on, stops}
+use Rattle.ea_blocks.proofs.blocks.Blocks.fill.Goals as goal
 
 pub loop-self-preserved : goal.loop-self-preserved
 loop-self-preserved g c =

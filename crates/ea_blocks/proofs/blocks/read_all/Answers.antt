@@ -1,7 +1,7 @@
 use Rattle.std.proofs.Common.{[], arith, length}
 use Rattle.std.proofs.lemmas.Grind.{common_steps}
-use Rattle.ea_bytes.proofs.Taken.{all_taken, at_most_taken, ended, failed_so, from_start, was_borne, within_limit}
-use Rattle.ea_bytes.proofs.blocks.read_all.Goals as goal
+use Rattle.ea_blocks.proofs.Taken.{all_taken, at_most_taken, ended, failed_so, from_start, was_borne, within_limit}
+use Rattle.ea_blocks.proofs.blocks.read_all.Goals as goal
 
 pub returns-in-Ok-clause-all : goal.returns-in-Ok-clause-all
 returns-in-Ok-clause-all g c =

@@ -2,13 +2,13 @@
 ghost use Rattle.std.specs.Prelude.{◌≡◌, ◌<◌, ◌≤◌, ◌^◌, ◌+◌, IfOk, ◌≢◌, List, [], ℕ, Option, IfErr, IfSome, IsOkAnd, OnErr, OnOk, vec_len, IsErrOf, length, true, false};
 ghost use Rattle.std.specs.Io.KnownBytes.{Consumes, IsAtEnd};
 ghost use Rattle.ea_bytes.specs.Device.{AreAlike, HasGivenUp, Seen, TakesAtMost};
-ghost use Rattle.ea_bytes.specs.Outcome.{CountsAfter, fault_name, fault_number};
-ghost use Rattle.ea_bytes.specs.Piece.{failures_with, interruptions_with};
-ghost use Rattle.ea_bytes.specs.Taking.{GoesOnTaking, HasRoom, IsTakenBy, IsTakenOn, StopsTaking, Takes};
-ghost use Rattle.ea_bytes.specs.declared.blocks.ReadFault.TheVariants.{OutOfMemory};
+ghost use Rattle.ea_blocks.specs.Outcome.{CountsAfter, fault_name, fault_number};
+ghost use Rattle.ea_blocks.specs.Outcome.{failures_with, interruptions_with};
+ghost use Rattle.ea_blocks.specs.Taking.{GoesOnTaking, HasRoom, IsTakenBy, IsTakenOn, StopsTaking, Takes};
+ghost use Rattle.ea_blocks.specs.declared.blocks.ReadFault.TheVariants.{OutOfMemory};
 
-use crate::device::{ByteIn, DeviceFault};
 use ea_base::MOST_INTERRUPTIONS;
+use ea_bytes::{ByteIn, DeviceFault};
 use std::alloc::{AllocError, Global};
 use thiserror::Error;
 

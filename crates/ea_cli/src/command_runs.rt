@@ -1,19 +1,37 @@
-//! Carrying out a command.
+//! A command, from its words to its exit status.
 ghost use Rattle.ea_messages.specs.Named.{HasFiles};
 ghost use Rattle.ea_options.specs.Limits.{HasLimits};
 
+use crate::arguments::words_of;
+use crate::descriptors::hold_descriptors;
+use crate::files::{Names, names_of, open_all, open_output};
+use crate::messages::{refuse, tell, tell_end, tell_unopened};
+use crate::pages::{explain_fault, show_text};
+use crate::progress_line::{Line, tells_progress};
 use crate::stored_run::stored;
-use ea_bytes::StdOut;
-use ea_cli::{
-    Line, Names, explain_fault, names_of, open_all, open_output, show_text, tell_end,
-    tell_unopened, tells_progress,
-};
-use ea_messages::FORMATS;
-use earliest::{Command, Performed, outcome_of, perform};
+use ea_messages::{FORMATS, Outcome};
+use ea_options::{Command, RunOptions, asks_to_explain};
+use earliest::{Performed, perform};
+use std::io::IsTerminal;
 use std::thread::Threads;
 
+/// Carries out the words of the command line. Returns the exit status. Faults are explained if the words ask for
+/// it, or on a terminal.
+pub fn run<H: Threads + Sync>(rt: &HostRuntime, threads: &H) -> u8 {
+    let _held = hold_descriptors(rt);
+    let words = match words_of(rt) {
+        Ok(words) => words,
+        Err(fault) => return tell(rt, &Outcome::Command(fault)),
+    };
+    let explains = asks_to_explain(&words) || rt.stderr().is_terminal();
+    match RunOptions::of_words(rt.alloc(), &words) {
+        Ok(command) => carry_out(rt, threads, &command, explains),
+        Err(fault) => refuse(rt, &words, fault, explains),
+    }
+}
+
 /// Carries out a command. Returns the exit status.
-pub fn carry_out<H: Threads + Sync>(
+fn carry_out<H: Threads + Sync>(
     rt: &HostRuntime,
     threads: &H,
     command: &Command<'_>,
@@ -54,25 +72,18 @@ fn carry_out_with<H: Threads + Sync>(
     let mut line = Line::begin(rt, is_asked);
     let performed = {
         let mut files = sources.readers();
-        let mut out = StdOut::new(&mut output);
         perform(
             rt.alloc(),
             threads,
             command,
             &mut files,
-            &mut out,
+            &mut output,
             &mut line,
         )
     };
     line.clear();
     let is_accepted = matches!(performed, Ok(Performed::Checked(Ok(()))));
-    let status = tell_end(
-        rt,
-        outcome_of(performed),
-        &mut sources,
-        &mut output,
-        explains,
-    );
+    let status = tell_end(rt, performed, &mut sources, &mut output, explains);
     if is_accepted && status == 0 && (is_asked || explains) {
         line.tell_checked();
     }

@@ -3,10 +3,10 @@ use Rattle.std.specs.Prelude.{◌≡◌, ◌⊎◌, ℕ, ◌+◌, ◌<◌, ◌�
 use Rattle.std.specs.Io.KnownBytes.{Consumes}
 use Rattle.ea_base.specs.declared.limits.TheConstants.{MOST_INTERRUPTIONS}
 use Rattle.ea_bytes.specs.Device.{Seen, TakesAtMost}
-use Rattle.ea_bytes.specs.Outcome.{FaultCounts}
-use Rattle.ea_bytes.specs.declared.blocks.Blocks.{Blocks}
-use Rattle.ea_bytes.specs.declared.blocks.ReadFault.{ReadFault}
-use Rattle.ea_bytes.specs.declared.blocks.ReadFault.TheVariants.{TooLarge}
+use Rattle.ea_blocks.specs.Outcome.{FaultCounts}
+use Rattle.ea_blocks.specs.declared.blocks.Blocks.{Blocks}
+use Rattle.ea_blocks.specs.declared.blocks.ReadFault.{ReadFault}
+use Rattle.ea_blocks.specs.declared.blocks.ReadFault.TheVariants.{TooLarge}
 
 -- Bytes grow by those that were taken from a device.
 abbrev pub Takes : Seen → Seen → List ℕ → List ℕ → Type 0

@@ -1,7 +1,7 @@
 use Rattle.std.proofs.Common.{arith, tests, ◌-◌}
 use Rattle.std.proofs.lemmas.Grind.{common_steps}
-use Rattle.ea_bytes.proofs.Taken.{interrupted_taken, none_taken, some_taken, stops_failed, stops_interrupted, stops_large, stops_refused}
-use Rattle.ea_bytes.proofs.blocks.Blocks.take.Goals as goal
+use Rattle.ea_blocks.proofs.Taken.{interrupted_taken, none_taken, some_taken, stops_failed, stops_interrupted, stops_large, stops_refused}
+use Rattle.ea_blocks.proofs.blocks.Blocks.take.Goals as goal
 
 pub returns-in_default-clause-fault : goal.returns-in_default-clause-fault
 returns-in_default-clause-fault g c =

@@ -1,8 +1,20 @@
--- What reading all bytes of a device did to its counts.
+-- What reading a device did to its counts.
 use Rattle.std.specs.Prelude.{ℕ, List, codes, Result, Ok, Err}
-use Rattle.ea_bytes.specs.Device.{Seen, GivesUp, BearsOn}
-use Rattle.ea_bytes.specs.declared.blocks.ReadFault.{ReadFault}
-use Rattle.ea_bytes.specs.declared.blocks.ReadFault.TheVariants.{TooLarge, ReadFailed, OutOfMemory}
+use Rattle.ea_bytes.specs.Device.{Seen, GivesUp, BearsOn, one_more}
+use Rattle.ea_bytes.specs.declared.device.DeviceFault.TheVariants.{Interrupted, Failed}
+use Rattle.ea_blocks.specs.declared.blocks.Piece.{Piece}
+use Rattle.ea_blocks.specs.declared.blocks.Piece.TheVariants.{Fault}
+use Rattle.ea_blocks.specs.declared.blocks.ReadFault.{ReadFault}
+use Rattle.ea_blocks.specs.declared.blocks.ReadFault.TheVariants.{TooLarge, ReadFailed, OutOfMemory}
+
+-- The counts after one read.
+abbrev pub failures_with : Piece → ℕ → ℕ
+failures_with (Fault Failed) n = one_more n
+failures_with _ n = n
+
+abbrev pub interruptions_with : Piece → ℕ → ℕ
+interruptions_with (Fault Interrupted) n = one_more n
+interruptions_with _ n = n
 
 -- Only a failed read, or one interruption too many, is ReadFailed; all other interruptions were tolerated.
 abbrev pub FaultCounts : ReadFault → Seen → Seen → Type 0

@@ -5,10 +5,10 @@ use Rattle.std.specs.Io.KnownBytes.{Consumes, IsAtEnd}
 use Rattle.std.proofs.KnownBytes.{Consumes-all, Consumes-trans}
 use Rattle.std.proofs.lemmas.Grind.{common_steps}
 use Rattle.ea_bytes.specs.Device.{Seen, BearsOn, HasGivenUp, TakesAtMost, GivesUp, one_more}
-use Rattle.ea_bytes.specs.Outcome.{FaultCounts}
-use Rattle.ea_bytes.specs.Taking.{IsStopped, IsTaken, Takes}
-use Rattle.ea_bytes.specs.declared.blocks.ReadFault.{ReadFault}
-use Rattle.ea_bytes.specs.declared.blocks.ReadFault.TheVariants.{OutOfMemory, ReadFailed, TooLarge}
+use Rattle.ea_blocks.specs.Outcome.{FaultCounts}
+use Rattle.ea_blocks.specs.Taking.{IsStopped, IsTaken, Takes}
+use Rattle.ea_blocks.specs.declared.blocks.ReadFault.{ReadFault}
+use Rattle.ea_blocks.specs.declared.blocks.ReadFault.TheVariants.{OutOfMemory, ReadFailed, TooLarge}
 
 -- If more bytes than a limit were taken, the device had more.
 pub more_left : (a b : Option (List ℕ)) (bytes : List ℕ) (limit : ℕ) → limit < length bytes → Consumes a b bytes → IfSome a (λ left. limit < length left)
