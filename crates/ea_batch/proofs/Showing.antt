@@ -1,12 +1,16 @@
 -- The nodes that a report shows are asked.
-use Rattle.std.proofs.Common.{◌≡◌, ℕ, List, Contains, subst}
-use Rattle.std.specs.Prelude.{Option, Some, None}
+use Rattle.std.proofs.Common.{◌≡◌, ℕ, Bool, List, Contains, subst}
+use Rattle.std.specs.Prelude.{IfOk, Option, Some, None, Result, Ok, Err}
 use Rattle.ea_road.specs.Queries.{Asking, IsAskedBy}
 use Rattle.ea_road.specs.Roads.{Roads}
 use Rattle.ea_search.specs.Answers.{Answered, HasArrivals, IsAnswer}
 use Rattle.ea_asked.specs.Asked.{HasArrivalsAt, IsAnswerAt}
 use Rattle.ea_asked.proofs.Answering.{answer_at, arrivals_at}
+use Rattle.ea_load.specs.declared.road.Road.{Road}
+use Rattle.ea_load.specs.Posed.{times_on}
+use Rattle.ea_search.specs.Listings.{Searched}
 use Rattle.ea_batch.specs.Shown.{IsShownIn, IsShownOf}
+use Rattle.ea_batch.specs.Solved.{IsFoundAt, IsFoundOn}
 
 shown_by : (chosen : Option (List ℕ)) (target : Option ℕ) (node : ℕ) → IsShownOf chosen target node → IsAskedBy target node
 shown_by chosen (Some target) node is = is
@@ -19,6 +23,16 @@ module _ (roads : Roads) (answers : ℕ → ℕ → ℕ → ℕ → Type 0) (cho
 
   pub answer_shown : IsAnswer roads answers query answer → IsAnswerAt roads answers query (IsShownIn chosen query) answer
   answer_shown = answer_at roads answers query (IsShownIn chosen query) (shown_by chosen query.target) answer
+
+-- so what a search found for all asked nodes is found for those
+pub found_shown : (chosen : Option (List ℕ)) (walks : Bool) (road : Road) (query : Asking) (search : Searched) → IsFoundOn walks road query search → IsFoundAt chosen walks road query search
+found_shown chosen walks road query search found = record {
+  solves = record {
+    arrivals = arrivals_shown road.network (times_on road) chosen query search.answer found.arrivals;
+    canonical = λ on. answer_shown road.network (times_on road) chosen query search.answer (found.canonical on);
+  };
+  ready = found.ready;
+}
 
 module _ (roads : Roads) (answers : ℕ → ℕ → ℕ → ℕ → Type 0) (nodes : List ℕ) (query : Asking) (all : query.target ≡ None) (answer : Answered) where
   is_chosen : (node : ℕ) → IsShownIn (Some nodes) query node → Contains nodes node
@@ -39,3 +53,8 @@ module _ (roads : Roads) (answers : ℕ → ℕ → ℕ → ℕ → Type 0) (nod
     canonical = λ node walk is_node is. right.canonical node walk is_node (is_chosen node is);
     attains = λ node time walk is_node is. right.attains node time walk is_node (is_chosen node is);
   }
+
+-- what four facts of a result say together
+pub of_four : {X E : Type 0} (r : Result X E) (P Q R S All : X → Type 0) → IfOk r P → IfOk r Q → IfOk r R → IfOk r S → ((x : X) → P x → Q x → R x → S x → All x) → IfOk r All
+of_four (Ok x) P Q R S All p q r s all = all x p q r s
+of_four (Err e) P Q R S All p q r s all = tt

@@ -1,5 +1,5 @@
 -- Drafts: reports of problems that are made before their turn.
-use Rattle.std.specs.Prelude.{◌≡◌, ◌↔◌, ℕ, ◌+◌, ◌*◌, ◌<◌, ◌≤◌, ◌^◌, true, List, IfSome, Some, length, take, slice_get, slice_index_or}
+use Rattle.std.specs.Prelude.{◌≡◌, ◌↔◌, ℕ, ◌+◌, ◌*◌, ◌<◌, ◌≤◌, ◌^◌, true, List, IfSome, Option, Some, Result, Ok, Err, length, take, slice_get, slice_index_or}
 use Rattle.ea_bytes.specs.Device.{Seen}
 use Rattle.ea_road.specs.Queries.{Asking}
 use Rattle.ea_load.specs.declared.road.Road.{Road}
@@ -12,6 +12,8 @@ use Rattle.ea_batch.specs.declared.draft.Draft.TheVariants as draft
 use Rattle.ea_batch.specs.declared.draft.Job.{Job}
 use Rattle.ea_batch.specs.declared.draft.Made.{Made}
 use Rattle.ea_batch.specs.declared.progress.Progress.{Progress}
+use Rattle.ea_batch.specs.declared.searching.Searching.{Searching}
+use Rattle.ea_batch.specs.Arrays.{IsAided}
 use Rattle.ea_batch.specs.Sent.{AreCutShort, AreSent}
 use Rattle.ea_batch.specs.Reported.{IsReportOf}
 use Rattle.ea_report.specs.Asked.{Shape, shape_of}
@@ -55,6 +57,11 @@ IsFit fits made = AllFrom fits made.from made.drafts.items
 pub record IsFor (fits : ℕ → Draft → Type 0) (job : Job) : Type 0 where
   pub same : (number : ℕ) (draft : Draft) → fits number draft ↔ IsDraftAt (shape_of job.shown) job.road.now job.queries.now number draft
 
+-- Drafts of a job can be made, on these arrays if there are any.
+pub record MayMake (job : Job) (last : Option Searching) : Type 0 where
+  pub is_job : IsJob job
+  pub search : IfSome last (Serves job.road.now.network job.shown.style.walks)
+
 -- The reports of the problems from one up to another were sent, if those before them were.
 pub record GoesOn (job : Job) (from to : ℕ) (before : Seen) (written : ℕ) (now : Seen) (after : ℕ) : Type 0 where
   pub sent : (first : Seen) → first.interrupted < 2 ^ 64
@@ -66,14 +73,22 @@ abbrev pub ArePiled : Job → List Made → Type 0
 ArePiled job pile = (k : ℕ) (d : Made) → k < length pile
     → AreDraftsAt (shape_of job.shown) job.road.now job.queries.now (slice_index_or pile k d).from (slice_index_or pile k d).drafts.items
 
--- The reports of the problems from one on can be sent: this many bytes were sent, the arrays fit, and the
--- pile has drafts of them.
-pub record CanSend (job : Job) (from : ℕ) (progress : Progress) (pile : List Made) : Type 0 where
+-- What is named a draft is one of the job's, and so is each on the pile.
+pub record IsDeskFor (fits : ℕ → Draft → Type 0) (job : Job) (pile : List Made) : Type 0 where
+  pub named : IsFor fits job
+  pub piled : ArePiled job pile
+
+-- The reports of the problems before this one were sent: no more bytes than they have, and what searches use is
+-- of the road.
+pub record StandsAt (job : Job) (from : ℕ) (progress : Progress) : Type 0 where
   pub is_job : IsJob job
-  pub inside : from ≤ length job.queries.now
   pub room : progress.written ≤ from * 2 ^ 90
-  pub search : IfSome progress.search (Serves job.road.now.network job.shown.style.walks)
-  pub aids : AreAidsOn job.road.now progress.aids
+  pub aided : IsAided job.road.now job.shown.style.walks progress.search progress.aids
+
+-- The reports of the problems from one on can be sent, and the pile has drafts of them.
+pub record CanSend (job : Job) (from : ℕ) (progress : Progress) (pile : List Made) : Type 0 where
+  pub stands : StandsAt job from progress
+  pub inside : from ≤ length job.queries.now
   pub piled : ArePiled job pile
 
 -- The reports of the problems from one up to another were sent, and those from there on can be.
@@ -88,3 +103,18 @@ pub record StopsAfter (job : Job) (from : ℕ) (before : Seen) (written : ℕ) (
   pub cut : (first : Seen) → first.interrupted < 2 ^ 64
       → AreSent (shape_of job.shown) job.road.now.network (times_on job.road.now) (take from job.queries.now) first before written
       → AreCutShort (shape_of job.shown) job.road.now.network (times_on job.road.now) job.queries.now first now fault
+
+-- The reports of the problems from one up to another were sent.
+pub record IsPartSent (job : Job) (from to : ℕ) (old : Seen) (before : Progress) (now : Seen) (after : Progress) : Type 0 where
+  pub went : GoesOn job from to old before.written now after.written
+  pub stands : StandsAt job to after
+
+-- They were sent, or a fault stopped them.
+abbrev pub SendsPart : Job → ℕ → ℕ → Seen → Progress → Seen → Progress → Result (Unit {0}) AnswerFault → Type 0
+SendsPart job from to old before now after (Ok done) = IsPartSent job from to old before now after
+SendsPart job from to old before now after (Err fault) = StopsAfter job from old before.written now fault
+
+-- The reports of some problems from one on were sent, or a fault stopped them; a result has the first that wasn't sent.
+abbrev pub SendsSome : Job → ℕ → Seen → Progress → Seen → Progress → List Made → Result ℕ AnswerFault → Type 0
+SendsSome job from old before now after pile (Ok to) = HaveGone job from to old before now after pile
+SendsSome job from old before now after pile (Err fault) = StopsAfter job from old before.written now fault

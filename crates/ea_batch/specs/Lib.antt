@@ -1,6 +1,9 @@
+pub mod Arrays
 pub mod Drafts
 pub mod Parts
+pub mod Reportable
 pub mod Reported
+pub mod Sending
 pub mod Sent
 pub mod Shown
 pub mod Solved

@@ -1,7 +1,7 @@
 -- The answer of a problem on a road.
-use Rattle.std.specs.Prelude.{◌≡◌, ◌≤◌, ℕ, Bool, IfSome, List, Option, length}
+use Rattle.std.specs.Prelude.{◌≡◌, ◌≤◌, ℕ, Bool, true, IfSome, List, Option, length}
 use Rattle.ea_base.specs.declared.limits.TheConstants.{MOST_STARTS}
-use Rattle.ea_road.specs.Queries.{Asking}
+use Rattle.ea_road.specs.Queries.{Asking, IsProblem}
 use Rattle.ea_road.specs.Roads.{Roads}
 use Rattle.ea_batch.specs.declared.searching.Aids.{Aids}
 use Rattle.ea_batch.specs.declared.searching.Searching.{Searching}
@@ -55,6 +55,27 @@ pub record AreAidsOn (road : Road) (aids : Aids) : Type 0 where
 -- The same of arrays that are known to be on the road as it was given, or laid out.
 abbrev pub IsReady : Roads → Bool → Searched → Type 0
 IsReady roads walks search = (search.nodes ≡ roads.nodes) × (search.walks ≡ walks)
+
+-- A problem, and arrays that fit the road for the next search.
+pub record MaySearch (road : Road) (walks : Bool) (query : Asking) (last : Option Searching) : Type 0 where
+  pub problem : IsProblem road.network (length road.times.tables.list.items) query
+  pub serves : IfSome last (Serves road.network walks)
+
+-- The answer has what a report of the query shows: least arrivals and, with walks, canonical walks.
+pub record Solves (chosen : Option (List ℕ)) (walks : Bool) (road : Road) (query : Asking) (answer : Answered) : Type 0 where
+  pub arrivals : ArrivesAt chosen road query answer
+  pub canonical : walks ≡ true → AnswersAt chosen road query answer
+
+-- A search found that.
+pub record IsFoundAt (chosen : Option (List ℕ)) (walks : Bool) (road : Road) (query : Asking) (search : Searched) : Type 0 where
+  pub solves : Solves chosen walks road query search.answer
+  pub ready : IsReady road.network walks search
+
+-- A search found the least arrivals of all nodes that are asked for and, with walks, their canonical walks.
+pub record IsFoundOn (walks : Bool) (road : Road) (query : Asking) (search : Searched) : Type 0 where
+  pub arrivals : ArrivesOn road query search.answer
+  pub canonical : walks ≡ true → AnswersOn road query search.answer
+  pub ready : IsReady road.network walks search
 
 -- The nodes that a report shows are nodes of the network, and no more than a file has.
 pub record IsShown (roads : Roads) (shape : Shape) : Type 0 where

@@ -1,9 +1,10 @@
 //! Drafts: reports of problems that several threads make before their turn.
-ghost use Rattle.std.specs.Prelude.{◌≡◌, ◌≤◌, ◌<◌, [], IfSome, Some, length, slice_get};
-ghost use Rattle.ea_base.specs.declared.limits.TheConstants.{MOST_NODES, MOST_STARTS};
-ghost use Rattle.ea_road.specs.Queries.{Asking, IsProblem};
-ghost use Rattle.ea_batch.specs.Drafts.{AreDraftsAt, IsDraftOf, IsJob};
-ghost use Rattle.ea_batch.specs.Solved.{AreAidsOn, IsShown, Serves};
+ghost use Rattle.std.specs.Prelude.{◌≡◌, [], IfSome, Some, slice_get};
+ghost use Rattle.ea_road.specs.Queries.{Asking};
+ghost use Rattle.ea_batch.specs.Arrays.{IsAided};
+ghost use Rattle.ea_batch.specs.Drafts.{AreDraftsAt, IsDraftOf, MayMake};
+ghost use Rattle.ea_batch.specs.Reportable.{IsReportable};
+ghost use Rattle.ea_batch.specs.Solved.{Serves};
 ghost use Rattle.ea_report.specs.Asked.{shape_of};
 
 use crate::one_search::search;
@@ -77,13 +78,8 @@ fn take_memory(job: Job<'_>) -> Vec<u8> {
 /// Makes the draft of a problem on the arrays of the last search, if there was one. They stay in `last`
 /// unless they become the draft. A text reuses the memory of an earlier one.
 fn make_draft(job: Job<'_>, query: &Query, last: &mut Option<Searching>) -> Draft
-    requires problem { IsProblem job.road.now.network
-        (length job.road.now.times.tables.list.items) query.now }
-    requires few { (length query.now.sources ≤ MOST_STARTS)
-        × (job.road.now.network.nodes ≤ MOST_NODES) }
-    requires shown { IsShown job.road.now.network (shape_of job.shown) }
-    requires aids { AreAidsOn job.road.now job.aids }
-    requires search { IfSome last.old (Serves job.road.now.network job.shown.style.walks) }
+    requires reportable { IsReportable job.road.now (shape_of job.shown) query.now }
+    requires aided { IsAided job.road.now job.shown.style.walks last.old job.aids }
     ensures draft { IsDraftOf (shape_of job.entry.shown) job.entry.road.now query.now result }
     ensures search { IfSome last.new (Serves job.entry.road.now.network job.entry.shown.style.walks) }
 {
@@ -119,8 +115,7 @@ fn make_draft(job: Job<'_>, query: &Query, last: &mut Option<Searching>) -> Draf
 /// Makes the draft of the problem with this number, from 0, if there is one. Except for the first of a part,
 /// only if arrays are left.
 fn make_draft_at(job: Job<'_>, at: usize, is_first: bool, last: &mut Option<Searching>) -> Draft
-    requires job { IsJob job }
-    requires search { IfSome last.old (Serves job.road.now.network job.shown.style.walks) }
+    requires { MayMake job last.old }
     ensures draft { (query : Asking) → slice_get job.entry.queries.now at ≡ Some query
         → IsDraftOf (shape_of job.entry.shown) job.entry.road.now query result }
     ensures search { IfSome last.new (Serves job.entry.road.now.network job.entry.shown.style.walks) }
@@ -154,8 +149,7 @@ pub(crate) struct Span {
 /// Makes the drafts of problems in their order, on the arrays of the last search, if there was one. Stops
 /// after a draft that is too long to be kept, or if memory for the list is refused.
 pub(crate) fn make_drafts(job: Job<'_>, span: Span, last: &mut Option<Searching>) -> Made
-    requires job { IsJob job }
-    requires search { IfSome last.old (Serves job.road.now.network job.shown.style.walks) }
+    requires { MayMake job last.old }
     ensures drafts { AreDraftsAt (shape_of job.entry.shown) job.entry.road.now
         job.entry.queries.now result.from result.drafts.items }
     ensures search { IfSome last.new (Serves job.entry.road.now.network job.entry.shown.style.walks) }

@@ -1,6 +1,6 @@
 //! Threads that make reports before their turn, and what they leave for the sending thread.
 ghost use Rattle.std.specs.Prelude.{◌≡◌, [], IfOk, IfSome};
-ghost use Rattle.ea_batch.specs.Drafts.{AreDraftsAt, ArePiled, IsFor, IsJob};
+ghost use Rattle.ea_batch.specs.Drafts.{AreDraftsAt, ArePiled, IsDeskFor, IsFor, IsJob, MayMake};
 ghost use Rattle.ea_report.specs.Asked.{shape_of};
 ghost use Rattle.ea_batch.specs.Solved.{Serves};
 
@@ -35,9 +35,8 @@ fn make_next<J: Asks>(
     lane: &mut Lane<J>,
     last: &mut Option<Searching>,
 ) -> bool
-    requires job { IsJob job }
+    requires making { MayMake job last.old }
     requires named { IsFor J.fits job }
-    requires search { IfSome last.old (Serves job.road.now.network job.shown.style.walks) }
     ensures search { IfSome last.new (Serves job.entry.road.now.network job.entry.shown.style.walks) }
 {
     match round.take(job) {
@@ -123,8 +122,7 @@ fn place_of(pile: &[Made], from: usize) -> usize {
 
 /// Moves what a thread left to the pile. What finds no memory there is dropped, and made again at its turn.
 fn collect<J: Asks>(taker: &Taker<J>, job: Job<'_>, pile: &mut Vec<Made>)
-    requires named { IsFor J.fits job }
-    requires pile { ArePiled job pile.old.items }
+    requires { IsDeskFor J.fits job pile.old.items }
     ensures pile { ArePiled job.entry pile.new.items }
 {
     for _ in 0..MOST_TAKEN {
@@ -140,8 +138,7 @@ fn collect<J: Asks>(taker: &Taker<J>, job: Job<'_>, pile: &mut Vec<Made>)
 impl<J: Asks> Desk<J> {
     /// Moves what threads left to the pile.
     fn gather(&mut self, job: Job<'_>)
-        requires named { IsFor J.fits job }
-        requires pile { ArePiled job self.old.pile.items }
+        requires { IsDeskFor J.fits job self.old.pile.items }
         ensures pile { ArePiled job.entry self.new.pile.items }
     {
         for taker in &self.left {
@@ -151,8 +148,7 @@ impl<J: Asks> Desk<J> {
 
     /// Takes the drafts of a job's problems from this one on, if they are there.
     pub(crate) fn take(&mut self, job: Job<'_>, from: usize) -> Option<Vec<Draft>>
-        requires named { IsFor J.fits job }
-        requires pile { ArePiled job self.old.pile.items }
+        requires { IsDeskFor J.fits job self.old.pile.items }
         ensures drafts { IfSome result (λ drafts. AreDraftsAt (shape_of job.entry.shown) job.entry.road.now
             job.entry.queries.now from drafts.items) }
         ensures pile { ArePiled job.entry self.new.pile.items }
@@ -173,9 +169,8 @@ impl<J: Asks> Desk<J> {
 
     /// Makes drafts too, or yields. Returns false if no one else makes any, or nothing came for too long.
     pub(crate) fn help(&mut self, job: Job<'_>, round: &Round, last: &mut Option<Searching>) -> bool
-        requires job { IsJob job }
+        requires making { MayMake job last.old }
         requires pile { ArePiled job self.old.pile.items }
-        requires search { IfSome last.old (Serves job.road.now.network job.shown.style.walks) }
         ensures pile { ArePiled job.entry self.new.pile.items }
         ensures search { IfSome last.new (Serves job.entry.road.now.network job.entry.shown.style.walks) }
     {

@@ -1,12 +1,10 @@
 //! Searches by one thread, one after another on the same arrays.
-ghost use Rattle.std.specs.Prelude.{◌≡◌, All, IfOk, IfSome, None, Some, length, true};
-ghost use Rattle.ea_road.specs.Queries.{IsProblem};
+ghost use Rattle.std.specs.Prelude.{◌≡◌, All, IfOk, IfSome, None, Some};
 ghost use Rattle.ea_road.specs.Roads.{IsNode};
 ghost use Rattle.ea_report.specs.Asked.{chosen_by, shape_of};
 ghost use Rattle.ea_layout.specs.Orders.{LaysOut};
 ghost use Rattle.ea_search.specs.Listings.{Searched};
-ghost use Rattle.ea_batch.specs.Solved.{AnswersAt, AnswersOn, AreAidsOn, ArrivesAt, ArrivesOn};
-ghost use Rattle.ea_batch.specs.Solved.{IsPreparedOn, IsReady, IsShown, Serves, searched};
+ghost use Rattle.ea_batch.specs.Solved.{AreAidsOn, IsFoundAt, IsFoundOn, IsPreparedOn, IsReady, IsShown, MaySearch, Serves, searched};
 
 use crate::searching::{Aids, Searching, few_chosen};
 use ea_asked::AskedSearch;
@@ -73,14 +71,9 @@ fn search_plain(
     walks: bool,
     last: Option<Searching>,
 ) -> Result<Search, AllocError>
-    requires problem { IsProblem road.now.network
-        (length road.now.times.tables.list.items) query.now }
-    requires serves { IfSome last (Serves road.now.network walks) }
+    requires may { MaySearch road.now walks query.now last }
     requires prepared { IfSome prepared (λ p. IsPreparedOn road.now p.now) }
-    ensures arrivals { IfOk result (λ search. ArrivesOn road.now query.now search.answer) }
-    ensures walks { IfOk result (λ search. walks ≡ true
-        → AnswersOn road.now query.now search.answer) }
-    ensures ready { IfOk result (IsReady road.now.network walks) }
+    ensures { IfOk result (IsFoundOn walks road.now query.now) }
 {
     let search = plain_arrays(alloc, road, walks, last)?;
     match prepared {
@@ -100,14 +93,9 @@ fn search_laid(
     walks: bool,
     last: Option<Searching>,
 ) -> Result<LaidSearch, AllocError>
-    requires problem { IsProblem road.now.network
-        (length road.now.times.tables.list.items) query.now }
-    requires serves { IfSome last (Serves road.now.network walks) }
+    requires may { MaySearch road.now walks query.now last }
     requires layout { LaysOut road.now.network layout.now }
-    ensures arrivals { IfOk result (λ search. ArrivesOn road.now query.now search.answer) }
-    ensures walks { IfOk result (λ search. walks ≡ true
-        → AnswersOn road.now query.now search.answer) }
-    ensures ready { IfOk result (IsReady road.now.network walks) }
+    ensures { IfOk result (IsFoundOn walks road.now query.now) }
 {
     let search = laid_arrays(alloc, road, walks, last)?;
     if walks {
@@ -149,15 +137,10 @@ fn search_asked(
     walks: bool,
     last: Option<Searching>,
 ) -> Result<AskedSearch, AllocError>
-    requires problem { IsProblem road.now.network
-        (length road.now.times.tables.list.items) query.now }
+    requires may { MaySearch road.now walks query.now last }
     requires all { query.now.target ≡ None }
     requires asked { All (IsNode road.now.network.nodes) asked.now }
-    requires serves { IfSome last (Serves road.now.network walks) }
-    ensures arrivals { IfOk result (λ search. ArrivesAt (Some asked.now) road.now query.now search.answer) }
-    ensures walks { IfOk result (λ search. walks ≡ true
-        → AnswersAt (Some asked.now) road.now query.now search.answer) }
-    ensures ready { IfOk result (IsReady road.now.network walks) }
+    ensures { IfOk result (IsFoundAt (Some asked.now) walks road.now query.now) }
 {
     let search = asked_arrays(alloc, road, walks, last)?;
     search.find(alloc, &road.network, &road.times, query, asked)
@@ -172,14 +155,9 @@ fn search_whole(
     walks: bool,
     last: Option<Searching>,
 ) -> Result<Searching, AllocError>
-    requires problem { IsProblem road.now.network
-        (length road.now.times.tables.list.items) query.now }
-    requires serves { IfSome last (Serves road.now.network walks) }
+    requires may { MaySearch road.now walks query.now last }
     requires aids { AreAidsOn road.now aids }
-    ensures arrivals { IfOk result (λ search. ArrivesOn road.now query.now (searched search).answer) }
-    ensures walks { IfOk result (λ search. walks ≡ true
-        → AnswersOn road.now query.now (searched search).answer) }
-    ensures serves { IfOk result (Serves road.now.network walks) }
+    ensures { IfOk result (λ search. IsFoundOn walks road.now query.now (searched search)) }
 {
     match aids.layout {
         Some(layout) => {
@@ -203,16 +181,11 @@ pub(crate) fn search(
     shown: ReportOptions<'_>,
     last: Option<Searching>,
 ) -> Result<Searching, AllocError>
-    requires problem { IsProblem road.now.network
-        (length road.now.times.tables.list.items) query.now }
+    requires may { MaySearch road.now shown.style.walks query.now last }
     requires shown { IsShown road.now.network (shape_of shown) }
-    requires serves { IfSome last (Serves road.now.network shown.style.walks) }
     requires aids { AreAidsOn road.now aids }
-    ensures arrivals { IfOk result (λ search.
-        ArrivesAt (chosen_by shown.entry) road.now query.now (searched search).answer) }
-    ensures walks { IfOk result (λ search. shown.entry.style.walks ≡ true
-        → AnswersAt (chosen_by shown.entry) road.now query.now (searched search).answer) }
-    ensures serves { IfOk result (Serves road.now.network shown.entry.style.walks) }
+    ensures { IfOk result (λ search. IsFoundAt (chosen_by shown.entry) shown.entry.style.walks
+        road.now query.now (searched search)) }
 {
     let walks = shown.style.walks;
     match few_chosen(road.network.nodes(), shown) {

@@ -1,13 +1,11 @@
 //! Reports of problems that are searched at once: several threads make some while earlier ones are sent.
-ghost use Rattle.std.specs.Prelude.{◌≡◌, ◌⊎◌, ◌≤◌, ◌<◌, ◌+◌, ◌-◌, ◌*◌, ◌^◌, ℕ, IfErr, IfOk, IfSome, OnOk, length};
-ghost use Rattle.ea_bytes.specs.Device.{GivesUp};
-ghost use Rattle.ea_base.specs.declared.limits.TheConstants.{MOST_AT_ONCE, MOST_NODES, MOST_STARTS};
-ghost use Rattle.ea_road.specs.Queries.{IsProblem};
-ghost use Rattle.ea_report.specs.Sent.{IsCutAt, IsWhole};
-ghost use Rattle.ea_load.specs.Posed.{AreProblems, times_on};
-ghost use Rattle.ea_batch.specs.Drafts.{AreDraftsAt, AreUnsent, CanSend, GoesOn, HaveGone, IsDraftAt, IsDraftOf, IsFor, IsJob, StopsAfter};
-ghost use Rattle.ea_batch.specs.Sent.{AreCutShort, AreSent, IsSent, IsStoppedBy};
-ghost use Rattle.ea_batch.specs.Solved.{AreAidsOn, IsShown, Serves};
+ghost use Rattle.std.specs.Prelude.{◌≡◌, ◌⊎◌, ◌≤◌, ◌<◌, ◌+◌, ◌*◌, ◌^◌, length};
+ghost use Rattle.ea_base.specs.declared.limits.TheConstants.{MOST_AT_ONCE, MOST_STARTS};
+ghost use Rattle.ea_batch.specs.Arrays.{CanReport, KeepsArrays, StaysAided};
+ghost use Rattle.ea_batch.specs.Drafts.{AreDraftsAt, AreUnsent, CanSend, IsDraftAt, IsDraftOf, IsFor, IsJob, SendsPart, SendsSome, StandsAt};
+ghost use Rattle.ea_batch.specs.Reportable.{AreReportable, IsReportable};
+ghost use Rattle.ea_batch.specs.Sending.{SendsAll, SendsReport, SendsText};
+ghost use Rattle.ea_batch.specs.Solved.{AreAidsOn};
 ghost use Rattle.ea_report.specs.Asked.{shape_of};
 ghost use Rattle.ea_batch.specs.declared.parallel_reports.TheConstants.{KEPT, LINES_IN_PART, PARTS_AHEAD};
 
@@ -87,16 +85,10 @@ fn plan_of(problems: usize, threads: usize, lines: usize, walks: bool) -> Plan
 impl Progress<'_> {
     /// Sends a report's text.
     fn send_text<W: ByteOut>(&mut self, text: &[u8], out: &mut W) -> Result<(), AnswerFault>
-        requires room { self.old.written ≤ MOST_STARTS * 2 ^ 90 }
-        ensures ok { OnOk result (IsWhole (W.seen out.old) (W.seen out.new) text.now
-            (self.new.written - self.old.written) × (self.old.written ≤ self.new.written)) }
-        ensures err { IfErr result
-            (λ fault. (sent : ℕ) × (fault ≡ AnswerFault.Write (self.old.written + sent))
-            × IsCutAt (W.seen out.old).bytes (W.seen out.new).bytes text.now sent
-            × GivesUp (W.seen out.old) (W.seen out.new)) }
-        ensures bound { OnOk result (self.new.written ≤ self.old.written + 2 ^ 90) }
-        ensures search { self.new.search ≡ self.old.search }
-        ensures aids { self.new.aids ≡ self.old.aids }
+        requires { self.old.written ≤ MOST_STARTS * 2 ^ 90 }
+        ensures sends { SendsText text.now (W.seen out.old) (W.seen out.new)
+            self.old.written self.new.written result }
+        ensures kept { KeepsArrays self.old self.new }
     {
         match write_pieces(&[text], out) {
             Ok(written) => {
@@ -110,8 +102,7 @@ impl Progress<'_> {
     /// Leaves the memory of a sent text to the threads that make texts.
     fn keep_memory(&mut self, memory: Vec<u8>)
         ensures written { self.new.written ≡ self.old.written }
-        ensures search { self.new.search ≡ self.old.search }
-        ensures aids { self.new.aids ≡ self.old.aids }
+        ensures kept { KeepsArrays self.old self.new }
     {
         if let Some(used) = &mut self.used {
             let _ = used.push(memory);
@@ -128,22 +119,12 @@ impl Progress<'_> {
         draft: Draft,
         out: &mut W,
     ) -> Result<(), AnswerFault>
-        requires problem { IsProblem road.now.network
-            (length road.now.times.tables.list.items) query.now }
-        requires few { (length query.now.sources ≤ MOST_STARTS)
-            × (road.now.network.nodes ≤ MOST_NODES) }
-        requires shown { IsShown road.now.network (shape_of shown) }
-        requires room { self.old.written ≤ MOST_STARTS * 2 ^ 90 }
-        requires search { IfSome self.old.search (Serves road.now.network shown.style.walks) }
-        requires aids { AreAidsOn road.now self.old.aids }
+        requires reportable { IsReportable road.now (shape_of shown) query.now }
+        requires can { CanReport road.now shown.style.walks self.old }
         requires draft { IsDraftOf (shape_of shown) road.now query.now draft }
-        ensures ok { OnOk result (IsSent (shape_of shown.entry) road.now.network (times_on road.now) query.now
-            (W.seen out.old) (W.seen out.new) self.old.written self.new.written) }
-        ensures err { IfErr result (IsStoppedBy (shape_of shown.entry) road.now.network (times_on road.now) query.now
-            (W.seen out.old) (W.seen out.new) self.old.written) }
-        ensures bound { OnOk result (self.new.written ≤ self.old.written + 2 ^ 90) }
-        ensures search { IfSome self.new.search (Serves road.now.network shown.entry.style.walks) }
-        ensures aids { self.new.aids ≡ self.old.aids }
+        ensures sends { SendsReport (shape_of shown.entry) road.now query.now
+            (W.seen out.old) (W.seen out.new) self.old.written self.new.written result }
+        ensures aided { StaysAided road.now shown.entry.style.walks self.old self.new }
     {
         match draft {
             Draft::Nothing => self.report_alone(alloc, road, query, shown, out),
@@ -184,22 +165,12 @@ fn send_part<W: ByteOut>(
     ready: &mut [Draft],
     out: &mut W,
 ) -> Result<(), AnswerFault>
-    requires job { IsJob job }
+    requires stands { StandsAt job span.from progress.old }
     requires span { (span.from ≤ span.to) × (span.to ≤ length job.queries.now) }
-    requires room { progress.old.written ≤ span.from * 2 ^ 90 }
-    requires search { IfSome progress.old.search
-        (Serves job.road.now.network job.shown.style.walks) }
-    requires aids { AreAidsOn job.road.now progress.old.aids }
     requires drafts { AreDraftsAt (shape_of job.shown) job.road.now
         job.queries.now span.from ready.old }
-    ensures ok { OnOk result (GoesOn job.entry span.from span.to
-        (W.seen out.old) progress.old.written (W.seen out.new) progress.new.written) }
-    ensures err { IfErr result (StopsAfter job.entry span.from
-        (W.seen out.old) progress.old.written (W.seen out.new)) }
-    ensures bound { OnOk result (progress.new.written ≤ span.to * 2 ^ 90) }
-    ensures search { OnOk result
-        (IfSome progress.new.search
-        (Serves job.entry.road.now.network job.entry.shown.style.walks)) }
+    ensures sends { SendsPart job.entry span.from span.to
+        (W.seen out.old) progress.old (W.seen out.new) progress.new result }
     ensures aids { progress.new.aids ≡ progress.old.aids }
 {
     let queries = job.queries;
@@ -233,10 +204,8 @@ fn send_round<J: Asks, W: ByteOut, V: Watch>(
 ) -> Result<usize, AnswerFault>
     requires named { IsFor J.fits job }
     requires can { CanSend job from progress.old desk.old.pile.items }
-    ensures ok { IfOk result (λ to. HaveGone job.entry from to (W.seen out.old) progress.old
-        (W.seen out.new) progress.new desk.new.pile.items) }
-    ensures err { IfErr result (StopsAfter job.entry from
-        (W.seen out.old) progress.old.written (W.seen out.new)) }
+    ensures { SendsSome job.entry from (W.seen out.old) progress.old
+        (W.seen out.new) progress.new desk.new.pile.items result }
 {
     let mut sent = from;
     for _ in 0..u64::MAX {
@@ -289,20 +258,16 @@ fn run_round<J: Asks, H: Threads + Sync, W: ByteOut, V: Watch>(
 ) -> Result<usize, AnswerFault>
     requires named { IsFor J.fits job }
     requires can { CanSend job from progress.old lanes.old.desk.pile.items }
-    ensures ok { IfOk result (λ to. HaveGone job.entry from to (W.seen out.old) progress.old
-        (W.seen out.new) progress.new lanes.new.desk.pile.items) }
-    ensures err { IfErr result (StopsAfter job.entry from
-        (W.seen out.old) progress.old.written (W.seen out.new)) }
+    ensures { SendsSome job.entry from (W.seen out.old) progress.old
+        (W.seen out.new) progress.new lanes.new.desk.pile.items result }
 {
     let Lanes { row, round, desk } = lanes;
     let round: &Round = round;
     round.begin(row.len());
     let mut sending = || -> Result<usize, AnswerFault>
         requires { IsFor J.fits job × CanSend job from progress.now desk.now.pile.items }
-        ensures { IfOk result (λ to. HaveGone job.entry from to (W.seen out.entry.now)
-            progress.entry.now (W.seen out.exit.now) progress.exit.now desk.exit.now.pile.items)
-            × IfErr result (StopsAfter job.entry from (W.seen out.entry.now)
-            progress.entry.now.written (W.seen out.exit.now)) }
+        ensures { SendsSome job.entry from (W.seen out.entry.now) progress.entry.now
+            (W.seen out.exit.now) progress.exit.now desk.exit.now.pile.items result }
     {
         let sent = send_round(progress, job, round, desk, from, out, watch);
         if sent.is_err() {
@@ -329,14 +294,8 @@ fn send_all<J: Asks, H: Threads + Sync, W: ByteOut, V: Watch>(
     requires named { IsFor J.fits job }
     requires can { CanSend job 0 progress.old lanes.old.desk.pile.items }
     requires none { progress.old.written ≡ 0 }
-    ensures ok { OnOk result (AreSent (shape_of job.entry.shown) job.entry.road.now.network
-        (times_on job.entry.road.now) job.entry.queries.now
-        (W.seen out.old) (W.seen out.new) progress.new.written) }
-    ensures err { IfErr result
-        (AreCutShort (shape_of job.entry.shown) job.entry.road.now.network
-        (times_on job.entry.road.now) job.entry.queries.now
-        (W.seen out.old) (W.seen out.new)) }
-    ensures bound { OnOk result (progress.new.written ≤ MOST_STARTS * 2 ^ 90) }
+    ensures { SendsAll (λ _. progress.new.written) (shape_of job.entry.shown) job.entry.road.now
+        job.entry.queries.now (W.seen out.old) (W.seen out.new) result }
 {
     // Proof hint: the count fits in u64.
     let _ = out.interruptions();
@@ -375,15 +334,8 @@ fn report_asked<'a, J: Asks, H: Threads + Sync, W: ByteOut, V: Watch>(
     requires named { IsFor J.fits job }
     requires some { 0 < length job.queries.now }
     requires threads { 1 ≤ threads }
-    ensures ok { IfOk result (λ progress.
-        AreSent (shape_of job.entry.shown) job.entry.road.now.network
-        (times_on job.entry.road.now) job.entry.queries.now
-        (W.seen out.old) (W.seen out.new) progress.written) }
-    ensures err { IfErr result
-        (AreCutShort (shape_of job.entry.shown) job.entry.road.now.network
-        (times_on job.entry.road.now) job.entry.queries.now
-        (W.seen out.old) (W.seen out.new)) }
-    ensures bound { IfOk result (λ progress. progress.written ≤ MOST_STARTS * 2 ^ 90) }
+    ensures { SendsAll (λ progress. progress.written) (shape_of job.entry.shown) job.entry.road.now
+        job.entry.queries.now (W.seen out.old) (W.seen out.new) result }
 {
     let mut lanes = match Lanes::<J>::open(job.alloc, threads - 1) {
         Ok(lanes) => lanes,
@@ -407,19 +359,12 @@ pub fn report_ahead<'a, H: Threads + Sync, W: ByteOut, V: Watch>(
     threads: usize,
     out: &mut W,
 ) -> Result<Progress<'a>, AnswerFault>
-    requires problems { AreProblems road.now queries.now }
-    requires few { (length queries.now ≤ MOST_STARTS) × (road.now.network.nodes ≤ MOST_NODES) }
+    requires reportable { AreReportable road.now (shape_of watched.shown) queries.now }
     requires some { 0 < length queries.now }
-    requires shown { IsShown road.now.network (shape_of watched.shown) }
     requires aids { AreAidsOn road.now watched.aids }
     requires threads { (1 ≤ threads) × (threads ≤ MOST_AT_ONCE) }
-    ensures ok { IfOk result (λ progress.
-        AreSent (shape_of watched.entry.shown) road.now.network (times_on road.now) queries.now
-        (W.seen out.old) (W.seen out.new) progress.written) }
-    ensures err { IfErr result
-        (AreCutShort (shape_of watched.entry.shown) road.now.network (times_on road.now) queries.now
-        (W.seen out.old) (W.seen out.new)) }
-    ensures bound { IfOk result (λ progress. progress.written ≤ MOST_STARTS * 2 ^ 90) }
+    ensures { SendsAll (λ progress. progress.written) (shape_of watched.entry.shown) road.now
+        queries.now (W.seen out.old) (W.seen out.new) result }
 {
     let Watched { shown, aids, watch } = watched;
     let lines = lines_of(road, &queries[0], shown);

@@ -1,11 +1,11 @@
 //! Reports of problems that one thread answers.
-ghost use Rattle.std.specs.Prelude.{◌≡◌, ◌≤◌, ◌<◌, ◌+◌, ◌*◌, ◌^◌, IfErr, IfSome, None, OnOk, length, true};
-ghost use Rattle.ea_base.specs.declared.limits.TheConstants.{MOST_NODES, MOST_STARTS};
-ghost use Rattle.ea_road.specs.Queries.{IsProblem};
+ghost use Rattle.std.specs.Prelude.{◌≡◌, ◌≤◌, ◌<◌, ◌+◌, ◌*◌, ◌^◌};
+ghost use Rattle.ea_base.specs.declared.limits.TheConstants.{MOST_STARTS};
 ghost use Rattle.ea_load.specs.Faults;
-ghost use Rattle.ea_load.specs.Posed.{times_on};
-ghost use Rattle.ea_batch.specs.Sent.{IsSent, IsStoppedBy};
-ghost use Rattle.ea_batch.specs.Solved.{AnswersAt, AreAidsOn, ArrivesAt, IsShown, Serves};
+ghost use Rattle.ea_batch.specs.Arrays.{CanReport, IsBegun, KeepsArrays, StaysAided};
+ghost use Rattle.ea_batch.specs.Reportable.{IsReportable};
+ghost use Rattle.ea_batch.specs.Sending.{SendsReport};
+ghost use Rattle.ea_batch.specs.Solved.{Solves};
 ghost use Rattle.ea_report.specs.Asked.{chosen_by, shape_of};
 
 use crate::one_search::search;
@@ -34,9 +34,7 @@ pub struct Progress<'a> {
 impl<'a> Progress<'a> {
     /// Nothing sent yet. The memory of sent texts goes to `used`, if others make texts.
     pub fn begin(aids: Aids<'a>, used: Option<Worker<Vec<u8>>>) -> Progress<'a>
-        ensures written { result.written ≡ 0 }
-        ensures search { result.search ≡ None }
-        ensures aids { result.aids ≡ aids.entry }
+        ensures { IsBegun aids.entry result }
     {
         Progress {
             written: 0,
@@ -70,22 +68,12 @@ impl Progress<'_> {
         shown: ReportOptions<'_>,
         out: &mut W,
     ) -> Result<(), AnswerFault>
-        requires problem { IsProblem road.now.network
-            (length road.now.times.tables.list.items) query.now }
-        requires shown { IsShown road.now.network (shape_of shown) }
-        requires few { (length query.now.sources ≤ MOST_STARTS)
-            × (road.now.network.nodes ≤ MOST_NODES) }
+        requires reportable { IsReportable road.now (shape_of shown) query.now }
         requires room { self.old.written ≤ MOST_STARTS * 2 ^ 90 }
-        requires arrivals { ArrivesAt (chosen_by shown) road.now query.now answer.now }
-        requires canonical { shown.style.walks ≡ true
-            → AnswersAt (chosen_by shown) road.now query.now answer.now }
-        ensures ok { OnOk result (IsSent (shape_of shown.entry) road.now.network (times_on road.now) query.now
-            (W.seen out.old) (W.seen out.new) self.old.written self.new.written) }
-        ensures err { IfErr result (IsStoppedBy (shape_of shown.entry) road.now.network (times_on road.now) query.now
-            (W.seen out.old) (W.seen out.new) self.old.written) }
-        ensures bound { OnOk result (self.new.written ≤ self.old.written + 2 ^ 90) }
-        ensures search { self.new.search ≡ self.old.search }
-        ensures aids { self.new.aids ≡ self.old.aids }
+        requires solves { Solves (chosen_by shown) shown.style.walks road.now query.now answer.now }
+        ensures sends { SendsReport (shape_of shown.entry) road.now query.now
+            (W.seen out.old) (W.seen out.new) self.old.written self.new.written result }
+        ensures kept { KeepsArrays self.old self.new }
     {
         match write_problem(alloc, &road.network, query, answer, shown, out) {
             Ok(written) => {
@@ -105,22 +93,11 @@ impl Progress<'_> {
         shown: ReportOptions<'_>,
         out: &mut W,
     ) -> Result<(), AnswerFault>
-        requires problem { IsProblem road.now.network
-            (length road.now.times.tables.list.items) query.now }
-        requires shown { IsShown road.now.network (shape_of shown) }
-        requires few { (length query.now.sources ≤ MOST_STARTS)
-            × (road.now.network.nodes ≤ MOST_NODES) }
-        requires room { self.old.written ≤ MOST_STARTS * 2 ^ 90 }
-        requires search { IfSome self.old.search (Serves road.now.network shown.style.walks) }
-        requires aids { AreAidsOn road.now self.old.aids }
-        ensures ok { OnOk result (IsSent (shape_of shown.entry) road.now.network (times_on road.now) query.now
-            (W.seen out.old) (W.seen out.new) self.old.written self.new.written) }
-        ensures err { IfErr result (IsStoppedBy (shape_of shown.entry) road.now.network (times_on road.now) query.now
-            (W.seen out.old) (W.seen out.new) self.old.written) }
-        ensures bound { OnOk result (self.new.written ≤ self.old.written + 2 ^ 90) }
-        ensures search { IfSome self.new.search
-            (Serves road.now.network shown.entry.style.walks) }
-        ensures aids { self.new.aids ≡ self.old.aids }
+        requires reportable { IsReportable road.now (shape_of shown) query.now }
+        requires can { CanReport road.now shown.style.walks self.old }
+        ensures sends { SendsReport (shape_of shown.entry) road.now query.now
+            (W.seen out.old) (W.seen out.new) self.old.written self.new.written result }
+        ensures aided { StaysAided road.now shown.entry.style.walks self.old self.new }
     {
         let last = self.search.take();
         match search(alloc, road, self.aids, query, shown, last) {

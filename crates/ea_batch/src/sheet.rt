@@ -35,9 +35,7 @@ impl Sheet {
     /// Counts a failed write.
     fn fail(&mut self) -> DeviceFault
         ensures fault { result ≡ DeviceFault.Failed }
-        ensures text { self.new.text ≡ self.old.text }
-        ensures most { self.new.most ≡ self.old.most }
-        ensures failures { self.new.failures ≡ one_more self.old.failures }
+        ensures counted { self.new ≡ record self.old { failures = one_more self.old.failures } }
     {
         self.failures = self.failures.saturating_add(1);
         DeviceFault::Failed

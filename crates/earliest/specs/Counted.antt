@@ -115,3 +115,14 @@ pub record AreSmall (problems : ℕ) (totals : Totals) : Type 0 where
   pub returned : totals.returned ≤ problems * 2 ^ 80
   pub drained : totals.drained ≤ problems * 2 ^ 80
   pub finish : totals.finish ≤ problems * 2 ^ 80
+
+-- Totals of no problem.
+pub record AreNoTotals (totals : Totals) : Type 0 where
+  pub none : totals ≡ totals_of []
+  pub balanced : AreBalanced totals
+  pub small : AreSmall 0 totals
+
+-- Totals of one problem: they balance and are small.
+pub record AreOfOne (totals : Totals) : Type 0 where
+  pub balanced : AreBalanced totals
+  pub small : AreSmall 1 totals

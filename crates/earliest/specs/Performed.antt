@@ -1,5 +1,5 @@
 -- The effect of each command, given its files.
-use Rattle.std.specs.Prelude.{◌≡◌, Option, Some, None, Result, Ok, Err, option_map}
+use Rattle.std.specs.Prelude.{◌≡◌, Option, Some, Result, Ok, Err, option_map}
 use Rattle.ea_bytes.specs.Device.{Seen}
 use Rattle.ea_load.specs.Files.{Reading, reading}
 use Rattle.ea_load.specs.Asked.{Files, files_of, IsAnswered, IsFailed}

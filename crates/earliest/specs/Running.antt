@@ -1,19 +1,25 @@
 -- What a run has written and may use, between two problems.
-use Rattle.std.specs.Prelude.{◌≤◌, ◌<◌, ◌+◌, ◌*◌, ◌^◌, ℕ, Bool, IfSome, Option, length}
-use Rattle.ea_base.specs.declared.limits.TheConstants.{MOST_NODES, MOST_STARTS}
-use Rattle.ea_batch.specs.Solved.{AreAidsOn, Serves}
+use Rattle.std.specs.Prelude.{◌≡◌, ◌≤◌, ◌<◌, ◌+◌, ◌*◌, ◌^◌, ℕ, Bool, true, List, Result, Ok, Err}
+use Rattle.ea_base.specs.declared.limits.TheConstants.{MOST_STARTS}
+use Rattle.ea_bytes.specs.Device.{Seen}
+use Rattle.ea_road.specs.Queries.{Asking}
+use Rattle.ea_batch.specs.Arrays.{IsAided}
+use Rattle.ea_batch.specs.Reportable.{AreReportable, IsReportable}
+use Rattle.ea_batch.specs.Sent.{AreSent}
+use Rattle.ea_batch.specs.Solved.{AnswersOn, AreAidsOn, ArrivesOn}
 use Rattle.ea_batch.specs.declared.searching.Aids.{Aids}
-use Rattle.ea_batch.specs.declared.searching.Searching.{Searching}
+use Rattle.ea_load.specs.Posed.{times_on}
+use Rattle.ea_load.specs.declared.answer_fault.AnswerFault.{AnswerFault}
 use Rattle.ea_load.specs.declared.road.Road.{Road}
+use Rattle.ea_options.specs.Limits.{AreOptions}
+use Rattle.ea_options.specs.declared.options.RunOptions.{RunOptions}
+use Rattle.ea_report.specs.Asked.{Shape}
 use Rattle.ea_report.specs.declared.stats.Totals.{Totals}
-use Rattle.ea_road.specs.Queries.{Asking, IsProblem}
-use Rattle.earliest.specs.Counted.{AreBalanced, AreSmall}
-
--- A problem on a road, of at most the limits' sources and nodes.
-pub record IsPosedOn (road : Road) (query : Asking) : Type 0 where
-  pub problem : IsProblem road.network (length road.times.tables.list.items) query
-  pub few_sources : length query.sources ≤ MOST_STARTS
-  pub few_nodes : road.network.nodes ≤ MOST_NODES
+use Rattle.earliest.specs.Counted.{AreBalanced, AreOfOne, AreSmall, AreTotals, plus}
+use Rattle.earliest.specs.Fronts.{IsCutShort, shape_by}
+use Rattle.earliest.specs.Workers.{settings_by}
+use Rattle.earliest.specs.declared.reports.Reports.{Reports}
+use Rattle.earliest.specs.declared.solver_choice.Found.{Found}
 
 -- What was written so far, and the totals of the problems so far, which are fewer than a file may have.
 pub record IsRunning (written : ℕ) (totals : Totals) : Type 0 where
@@ -26,7 +32,40 @@ pub record HasOneMore (old new : Totals) : Type 0 where
   pub balanced : AreBalanced new
   pub small : (problems : ℕ) → AreSmall problems old → AreSmall (problems + 1) new
 
--- The arrays that the next search uses again, and what it may use besides, are of the road.
-pub record IsAided (road : Road) (walks : Bool) (arrays : Option Searching) (means : Aids) : Type 0 where
-  pub search : IfSome arrays (Serves road.network walks)
+-- Totals with those of one more problem added.
+pub record AddsTotals (old more new : Totals) : Type 0 where
+  pub sums : new ≡ plus old more
+  pub has_one_more : HasOneMore old new
+
+-- Workers found the least arrivals of a problem and, with walks, its canonical walks.
+pub record IsFound (walks : Bool) (road : Road) (query : Asking) (found : Found) : Type 0 where
+  pub arrivals : ArrivesOn road query found.answer
+  pub canonical : walks ≡ true → AnswersOn road query found.answer
+  pub of_one : AreOfOne found.totals
+
+-- The next problem of a run can be reported as the options say.
+pub record MayReport (road : Road) (query : Asking) (options : RunOptions) (shape : Shape) (reports : Reports) : Type 0 where
+  pub reportable : IsReportable road shape query
+  pub options_are : AreOptions options
+  pub walks : shape.style.walks ≡ options.walks
+  pub running : IsRunning reports.progress.written reports.totals
+  pub aided : IsAided road shape.style.walks reports.progress.search reports.progress.aids
+
+-- All problems of a run can be.
+pub record MayReportAll (road : Road) (queries : List Asking) (options : RunOptions) (shape : Shape) (means : Aids) : Type 0 where
+  pub reportable : AreReportable road shape queries
+  pub options_are : AreOptions options
+  pub asked : shape ≡ shape_by options shape.chosen
   pub aids : AreAidsOn road means
+
+-- The reports of all problems were sent and, with statistics, their totals were counted.
+pub record HaveReported (options : RunOptions) (shape : Shape) (road : Road) (queries : List Asking) (old now : Seen) (reports : Reports) : Type 0 where
+  pub sent : AreSent shape road.network (times_on road) queries old now reports.progress.written
+  pub bound : reports.progress.written ≤ MOST_STARTS * 2 ^ 90
+  pub counted : options.stats ≡ true → AreTotals (settings_by options) queries reports.totals
+  pub balanced : AreBalanced reports.totals
+
+-- They were sent, or cut short by a fault.
+abbrev pub ReportsAll : RunOptions → Shape → Road → List Asking → Seen → Seen → Result Reports AnswerFault → Type 0
+ReportsAll options shape road queries old now (Ok reports) = HaveReported options shape road queries old now reports
+ReportsAll options shape road queries old now (Err fault) = IsCutShort options shape.chosen road.network (times_on road) queries old now fault

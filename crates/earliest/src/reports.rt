@@ -1,21 +1,21 @@
 //! Writing the reports of problems one after another, and their totals.
-ghost use Rattle.std.specs.Prelude.{◌≡◌, ◌≤◌, ◌<◌, ◌+◌, ◌*◌, ◌^◌, ℕ, [], IfOk, IfErr, IfSome, None, OnOk, if◌then◌else◌, length, true};
+ghost use Rattle.std.specs.Prelude.{◌≡◌, ◌≤◌, ◌+◌, ◌*◌, ◌^◌, ℕ, [], IfOk, IfErr, OnOk, if◌then◌else◌, length, true};
 ghost use Rattle.std.specs.Io.KnownBytes.{Appends};
 ghost use Rattle.ea_bytes.specs.Device.{BearsOn, GivesUp};
 ghost use Rattle.ea_base.specs.declared.limits.TheConstants.{MOST_NODES, MOST_STARTS};
-ghost use Rattle.ea_road.specs.Queries.{IsProblem};
+ghost use Rattle.ea_report.specs.Asked.{chosen_by, shape_of};
 ghost use Rattle.ea_report.specs.Sent.{IsCutAt};
 ghost use Rattle.ea_report.specs.Stats.{stats_text};
 ghost use Rattle.ea_report.specs.declared.stats.Totals.{Totals};
-ghost use Rattle.ea_options.specs.Limits.{AreOptions};
 ghost use Rattle.ea_load.specs.Posed.{AreProblems, times_on};
-ghost use Rattle.ea_batch.specs.Sent.{AreSent, IsSent, IsStoppedBy};
-ghost use Rattle.ea_batch.specs.Solved.{AnswersOn, AreAidsOn, ArrivesOn, IsShown, Serves};
-ghost use Rattle.ea_report.specs.Asked.{chosen_by, shape_of};
-ghost use Rattle.earliest.specs.Fronts.{shape_by};
-ghost use Rattle.earliest.specs.Counted.{AreBalanced, AreSmall, AreTotals, IsTotal, plus, totals_of};
-ghost use Rattle.earliest.specs.Fronts.{IsCutShort, IsWritten};
-ghost use Rattle.earliest.specs.Running.{HasOneMore, IsAided, IsPosedOn, IsRunning};
+ghost use Rattle.ea_options.specs.Limits.{AreOptions};
+ghost use Rattle.ea_batch.specs.Arrays.{IsAided, IsBegun, KeepsArrays};
+ghost use Rattle.ea_batch.specs.Reportable.{IsReportable};
+ghost use Rattle.ea_batch.specs.Sending.{SendsReport};
+ghost use Rattle.ea_batch.specs.Solved.{AreAidsOn, IsShown};
+ghost use Rattle.earliest.specs.Counted.{AreNoTotals, IsTotal, plus};
+ghost use Rattle.earliest.specs.Fronts.{IsCutShort, IsWritten, shape_by};
+ghost use Rattle.earliest.specs.Running.{AddsTotals, HasOneMore, IsFound, IsRunning, MayReport, MayReportAll, ReportsAll};
 ghost use Rattle.earliest.specs.Workers.{settings_by};
 
 use crate::solver_choice::{Found, find, goes_ahead, threads_at_once, workers_of};
@@ -40,12 +40,8 @@ pub(crate) struct Reports<'a> {
 impl<'a> Reports<'a> {
     /// Nothing sent yet.
     fn begin(aids: Aids<'a>) -> Reports<'a>
-        ensures totals { result.totals ≡ totals_of [] }
-        ensures balanced { AreBalanced result.totals }
-        ensures small { AreSmall 0 result.totals }
-        ensures written { result.progress.written ≡ 0 }
-        ensures search { result.progress.search ≡ None }
-        ensures aids { result.progress.aids ≡ aids.entry }
+        ensures totals { AreNoTotals result.totals }
+        ensures progress { IsBegun aids.entry result.progress }
     {
         Reports {
             totals: no_totals(),
@@ -65,24 +61,14 @@ impl Reports<'_> {
         shown: ReportOptions<'_>,
         out: &mut W,
     ) -> Result<(), AnswerFault>
-        requires posed { IsPosedOn road.now query.now }
-        requires arrivals { ArrivesOn road.now query.now found.now.answer }
-        requires shown { IsShown road.now.network (shape_of shown) }
-        requires canonical { shown.style.walks ≡ true
-            → AnswersOn road.now query.now found.now.answer }
+        requires reportable { IsReportable road.now (shape_of shown) query.now }
+        requires found { IsFound shown.style.walks road.now query.now found.now }
         requires running { IsRunning self.old.progress.written self.old.totals }
-        requires one { AreSmall 1 found.now.totals × AreBalanced found.now.totals }
-        ensures ok { OnOk result (IsSent
-            (shape_of shown.entry) road.now.network (times_on road.now) query.now
-            (W.seen out.old) (W.seen out.new) self.old.progress.written self.new.progress.written) }
-        ensures err { IfErr result (IsStoppedBy
-            (shape_of shown.entry) road.now.network (times_on road.now) query.now
-            (W.seen out.old) (W.seen out.new) self.old.progress.written) }
-        ensures bound { OnOk result (self.new.progress.written ≤ self.old.progress.written + 2 ^ 90) }
-        ensures totals { OnOk result (self.new.totals ≡ plus self.old.totals found.now.totals) }
-        ensures more { OnOk result (HasOneMore self.old.totals self.new.totals) }
-        ensures same { (self.new.progress.search ≡ self.old.progress.search)
-            × (self.new.progress.aids ≡ self.old.progress.aids) }
+        ensures sends { SendsReport (shape_of shown.entry) road.now query.now
+            (W.seen out.old) (W.seen out.new)
+            self.old.progress.written self.new.progress.written result }
+        ensures adds { OnOk result (AddsTotals self.old.totals found.now.totals self.new.totals) }
+        ensures kept { KeepsArrays self.old.progress self.new.progress }
     {
         self.progress
             .write(alloc, road, query, &found.answer, shown, out)?;
@@ -102,20 +88,10 @@ impl Reports<'_> {
         shown: ReportOptions<'_>,
         out: &mut W,
     ) -> Result<(), AnswerFault>
-        requires posed { IsPosedOn road.now query.now }
-        requires options { AreOptions options.now }
-        requires walks { shown.style.walks ≡ options.now.walks }
-        requires shown { IsShown road.now.network (shape_of shown) }
-        requires running { IsRunning self.old.progress.written self.old.totals }
-        requires aided { IsAided road.now shown.style.walks
-            self.old.progress.search self.old.progress.aids }
-        ensures ok { OnOk result (IsSent
-            (shape_of shown.entry) road.now.network (times_on road.now) query.now
-            (W.seen out.old) (W.seen out.new) self.old.progress.written self.new.progress.written) }
-        ensures err { IfErr result (IsStoppedBy
-            (shape_of shown.entry) road.now.network (times_on road.now) query.now
-            (W.seen out.old) (W.seen out.new) self.old.progress.written) }
-        ensures bound { OnOk result (self.new.progress.written ≤ self.old.progress.written + 2 ^ 90) }
+        requires run { MayReport road.now query.now options.now (shape_of shown) self.old }
+        ensures sends { SendsReport (shape_of shown.entry) road.now query.now
+            (W.seen out.old) (W.seen out.new)
+            self.old.progress.written self.new.progress.written result }
         ensures counted { OnOk result (options.now.stats ≡ true →
             (more : Totals) × IsTotal (settings_by options.now) query.now more
             × (self.new.totals ≡ plus self.old.totals more)) }
@@ -147,24 +123,9 @@ fn report_each<'a, H: Threads + Sync, W: ByteOut, V: Watch>(
     watched: Watched<'a, V>,
     out: &mut W,
 ) -> Result<Reports<'a>, AnswerFault>
-    requires problems { AreProblems road.now queries.now }
-    requires few { (length queries.now ≤ MOST_STARTS) × (road.now.network.nodes ≤ MOST_NODES) }
-    requires options { AreOptions options.now }
-    requires asked { shape_of watched.shown
-        ≡ shape_by options.now (chosen_by watched.shown) }
-    requires shown { IsShown road.now.network (shape_of watched.shown) }
-    requires aids { AreAidsOn road.now watched.aids }
-    ensures ok { IfOk result (λ reports.
-        AreSent (shape_of watched.entry.shown) road.now.network (times_on road.now) queries.now
-        (W.seen out.old) (W.seen out.new) reports.progress.written) }
-    ensures err { IfErr result
-        (IsCutShort options.now (chosen_by watched.entry.shown)
-        road.now.network (times_on road.now) queries.now
-        (W.seen out.old) (W.seen out.new)) }
-    ensures bound { IfOk result (λ reports. reports.progress.written ≤ MOST_STARTS * 2 ^ 90) }
-    ensures counted { IfOk result (λ reports. options.now.stats ≡ true
-        → AreTotals (settings_by options.now) queries.now reports.totals) }
-    ensures balanced { IfOk result (λ reports. AreBalanced reports.totals) }
+    requires run { MayReportAll road.now queries.now options.now (shape_of watched.shown) watched.aids }
+    ensures { ReportsAll options.now (shape_of watched.entry.shown) road.now queries.now
+        (W.seen out.old) (W.seen out.new) result }
 {
     let Watched { shown, aids, watch } = watched;
     let mut reports = Reports::begin(aids);
@@ -190,24 +151,9 @@ fn report_problems<'a, H: Threads + Sync, W: ByteOut, V: Watch>(
     watched: Watched<'a, V>,
     out: &mut W,
 ) -> Result<Reports<'a>, AnswerFault>
-    requires problems { AreProblems road.now queries.now }
-    requires few { (length queries.now ≤ MOST_STARTS) × (road.now.network.nodes ≤ MOST_NODES) }
-    requires options { AreOptions options.now }
-    requires asked { shape_of watched.shown
-        ≡ shape_by options.now (chosen_by watched.shown) }
-    requires shown { IsShown road.now.network (shape_of watched.shown) }
-    requires aids { AreAidsOn road.now watched.aids }
-    ensures ok { IfOk result (λ reports.
-        AreSent (shape_of watched.entry.shown) road.now.network (times_on road.now) queries.now
-        (W.seen out.old) (W.seen out.new) reports.progress.written) }
-    ensures err { IfErr result
-        (IsCutShort options.now (chosen_by watched.entry.shown)
-        road.now.network (times_on road.now) queries.now
-        (W.seen out.old) (W.seen out.new)) }
-    ensures bound { IfOk result (λ reports. reports.progress.written ≤ MOST_STARTS * 2 ^ 90) }
-    ensures counted { IfOk result (λ reports. options.now.stats ≡ true
-        → AreTotals (settings_by options.now) queries.now reports.totals) }
-    ensures balanced { IfOk result (λ reports. AreBalanced reports.totals) }
+    requires run { MayReportAll road.now queries.now options.now (shape_of watched.shown) watched.aids }
+    ensures { ReportsAll options.now (shape_of watched.entry.shown) road.now queries.now
+        (W.seen out.old) (W.seen out.new) result }
 {
     let Watched { shown, aids, watch } = watched;
     let watched = Watched { shown, aids, watch };

@@ -1,14 +1,14 @@
 //! Choosing how a problem is searched: by workers or by the search of one thread.
-ghost use Rattle.std.specs.Prelude.{◌≡◌, ◌≤◌, ◌||◌, ℕ, All, IfOk, IfSome, Option, is_some, length, replicate, true, vec_len};
+ghost use Rattle.std.specs.Prelude.{◌≡◌, ◌≤◌, ◌||◌, ℕ, All, IfOk, IfSome, Option, false, is_some, length, replicate, true, vec_len};
 ghost use Rattle.ea_base.specs.declared.limits.TheConstants.{MOST_AT_ONCE, MOST_STARTS, MOST_WORKERS};
-ghost use Rattle.ea_road.specs.Queries.{IsProblem};
+ghost use Rattle.ea_load.specs.Posed.{IsPosed};
 ghost use Rattle.ea_engine.specs.Companies.{idle_with, IsIdleFor, LeavesAs};
 ghost use Rattle.ea_engine.specs.Limits.{AreSettings};
 ghost use Rattle.ea_engine.specs.Tallies.{IsTally};
 ghost use Rattle.ea_options.specs.Limits.{AreOptions, counted_workers};
-ghost use Rattle.earliest.specs.Counted.{AreBalanced, AreSmall, IsTotal, KeepsOn, totals_by};
+ghost use Rattle.earliest.specs.Counted.{AreOfOne, IsTotal, KeepsOn, totals_by};
 ghost use Rattle.ea_rank_command.specs.Generators.{generators_from};
-ghost use Rattle.ea_batch.specs.Solved.{AnswersOn, ArrivesOn};
+ghost use Rattle.earliest.specs.Running.{IsFound};
 ghost use Rattle.earliest.specs.Choices.{asks_for_workers, at_once_on, goes_ahead, settings_for, workers_asked, workers_by, workers_for, workers_on};
 ghost use Rattle.earliest.specs.Workers.{AreAtHome, settings_with};
 
@@ -297,8 +297,7 @@ fn totals_of(
       finish = finish;
       workers = counters.now;
     }) }
-    ensures balanced { AreBalanced result }
-    ensures small { AreSmall 1 result }
+    ensures of_one { AreOfOne result }
 {
     let work = work_of(counters);
     Totals {
@@ -323,16 +322,13 @@ fn find_walks<H: Threads + Sync, R: Rng + Send + Drop, T: FnMut(Turn) -> Flow + 
     rngs: Vec<R>,
     tracers: Vec<T>,
 ) -> Result<Found, AllocError>
-    requires problem { IsProblem road.now.network (length road.now.times.tables.list.items) query.now }
-    requires few { length query.now.sources ≤ MOST_STARTS }
+    requires posed { IsPosed road.now query.now }
     requires settings { AreSettings settings }
     requires workers { (vec_len rngs ≡ settings.workers) × (vec_len tracers ≡ settings.workers) }
     requires tracers { All T.IsAlwaysCallable tracers.items }
     requires stays { All (KeepsOn T.step settings.workers) tracers.items }
-    ensures answer { IfOk result (λ found. AnswersOn road.now query.now found.answer) }
+    ensures found { IfOk result (IsFound true road.now query.now) }
     ensures counted { IfOk result (λ found. IsTotal settings query.now found.totals) }
-    ensures balanced { IfOk result (λ found. AreBalanced found.totals) }
-    ensures small { IfOk result (λ found. AreSmall 1 found.totals) }
 {
     let solved = solve(
         alloc,
@@ -369,16 +365,13 @@ fn find_arrivals<H: Threads + Sync, R: Rng + Send + Drop, T: FnMut(Turn) -> Flow
     rngs: Vec<R>,
     tracers: Vec<T>,
 ) -> Result<Found, AllocError>
-    requires problem { IsProblem road.now.network (length road.now.times.tables.list.items) query.now }
-    requires few { length query.now.sources ≤ MOST_STARTS }
+    requires posed { IsPosed road.now query.now }
     requires settings { AreSettings settings }
     requires workers { (vec_len rngs ≡ settings.workers) × (vec_len tracers ≡ settings.workers) }
     requires tracers { All T.IsAlwaysCallable tracers.items }
     requires stays { All (KeepsOn T.step settings.workers) tracers.items }
-    ensures answer { IfOk result (λ found. ArrivesOn road.now query.now found.answer) }
+    ensures found { IfOk result (IsFound false road.now query.now) }
     ensures counted { IfOk result (λ found. IsTotal settings query.now found.totals) }
-    ensures balanced { IfOk result (λ found. AreBalanced found.totals) }
-    ensures small { IfOk result (λ found. AreSmall 1 found.totals) }
 {
     let solved = solve_arrivals(
         alloc,
@@ -415,20 +408,13 @@ fn find_by<H: Threads + Sync, R: Rng + Send + Drop, T: FnMut(Turn) -> Flow + Sen
     rngs: Vec<R>,
     tracer: T,
 ) -> Result<Found, AllocError>
-    requires problem { IsProblem asked.road.now.network
-        (length asked.road.now.times.tables.list.items) asked.query.now }
-    requires few { length asked.query.now.sources ≤ MOST_STARTS }
+    requires posed { IsPosed asked.road.now asked.query.now }
     requires settings { AreSettings settings }
     requires workers { vec_len rngs ≡ settings.workers }
     requires tracer { T.IsAlwaysCallable tracer }
     requires stays { KeepsOn T.step settings.workers tracer }
-    ensures arrivals { IfOk result (λ found.
-        ArrivesOn asked.entry.road.now asked.entry.query.now found.answer) }
-    ensures walks { IfOk result (λ found. asked.entry.walks ≡ true
-        → AnswersOn asked.entry.road.now asked.entry.query.now found.answer) }
+    ensures found { IfOk result (IsFound asked.entry.walks asked.entry.road.now asked.entry.query.now) }
     ensures counted { IfOk result (λ found. IsTotal settings asked.entry.query.now found.totals) }
-    ensures balanced { IfOk result (λ found. AreBalanced found.totals) }
-    ensures small { IfOk result (λ found. AreSmall 1 found.totals) }
 {
     let Asked { road, query, walks } = asked;
     let tracers = copies(alloc, tracer, settings.workers)?;
@@ -448,17 +434,12 @@ pub(crate) fn find<H: Threads + Sync>(
     options: &RunOptions,
     workers: u32,
 ) -> Result<Found, AllocError>
-    requires problem { IsProblem road.now.network (length road.now.times.tables.list.items) query.now }
-    requires few { length query.now.sources ≤ MOST_STARTS }
+    requires posed { IsPosed road.now query.now }
     requires options { AreOptions options.now }
     requires workers { (1 ≤ workers) × (workers ≤ MOST_WORKERS) }
-    ensures arrivals { IfOk result (λ found. ArrivesOn road.now query.now found.answer) }
-    ensures walks { IfOk result (λ found. options.now.walks ≡ true
-        → AnswersOn road.now query.now found.answer) }
+    ensures found { IfOk result (IsFound options.now.walks road.now query.now) }
     ensures counted { IfOk result (λ found. options.now.stats ≡ true
         → IsTotal (settings_with options.now workers) query.now found.totals) }
-    ensures balanced { IfOk result (λ found. AreBalanced found.totals) }
-    ensures small { IfOk result (λ found. AreSmall 1 found.totals) }
 {
     let settings = settings_of(options, workers);
     let asked = Asked {

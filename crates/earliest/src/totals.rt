@@ -1,19 +1,16 @@
 //! The totals of problems.
-ghost use Rattle.std.specs.Prelude.{◌≡◌, ◌+◌, ◌*◌, ◌^◌, ◌≤◌, ◌<◌, ℕ, [], length, sum_by};
+ghost use Rattle.std.specs.Prelude.{◌≡◌, ◌+◌, ◌*◌, ◌^◌, ◌≤◌, ◌<◌, ℕ, length};
 ghost use Rattle.ea_base.specs.declared.limits.TheConstants.{MOST_STARTS};
-ghost use Rattle.ea_engine.specs.Tallies.{pushed_by_all, popped_by_all, returned_by_all};
-ghost use Rattle.ea_engine.specs.declared.worker.counters.Counters.{Counters as Counted};
-ghost use Rattle.earliest.specs.Counted.{AreBalanced, AreSmall, plus, totals_of};
-ghost use Rattle.earliest.specs.Worked.{AreNarrow, HasRoom, IsLittle, work_with};
+ghost use Rattle.earliest.specs.Counted.{AreBalanced, AreNoTotals, AreOfOne, AreSmall};
+ghost use Rattle.earliest.specs.Running.{AddsTotals};
+ghost use Rattle.earliest.specs.Worked.{AreNarrow, HasRoom, IsWorkOf, work_with};
 
 use ea_engine::Counters;
 use ea_report::Totals;
 
 /// Totals of 0.
 pub(crate) fn no_totals() -> Totals
-    ensures none { result ≡ totals_of [] }
-    ensures balanced { AreBalanced result }
-    ensures small { AreSmall 0 result }
+    ensures { AreNoTotals result }
 {
     Totals {
         seeded: 0,
@@ -61,12 +58,7 @@ fn add_work(work: &mut Work, counted: &Counters)
 /// The sums over workers.
 pub(crate) fn work_of(counters: &[Counters]) -> Work
     requires few { length counters.now ≤ 16 }
-    ensures pushed { result.pushed ≡ pushed_by_all counters.now }
-    ensures popped { result.popped ≡ popped_by_all counters.now }
-    ensures stale { result.stale ≡ sum_by (λ (c : Counted). c.stale) counters.now }
-    ensures scanned { result.scanned ≡ sum_by (λ (c : Counted). c.scanned) counters.now }
-    ensures returned { result.returned ≡ returned_by_all counters.now }
-    ensures few { IsLittle result }
+    ensures sums { IsWorkOf counters.now result }
 {
     let mut work = Work {
         pushed: 0,
@@ -84,12 +76,9 @@ pub(crate) fn work_of(counters: &[Counters]) -> Work
 /// The totals of more problems.
 pub(crate) fn add_totals(totals: &mut Totals, more: &Totals)
     requires few { (problems : ℕ) × (problems < MOST_STARTS) × AreSmall problems totals.old }
-    requires small { AreSmall 1 more.now }
-    requires balanced { AreBalanced totals.old × AreBalanced more.now }
-    ensures sums { totals.new ≡ plus totals.old more.now }
-    ensures balanced { AreBalanced totals.new }
-    ensures small { (problems : ℕ) →
-        AreSmall problems totals.old → AreSmall (problems + 1) totals.new }
+    requires balanced { AreBalanced totals.old }
+    requires more { AreOfOne more.now }
+    ensures { AddsTotals totals.old more.now totals.new }
 {
     totals.seeded += more.seeded;
     totals.pushed += more.pushed;

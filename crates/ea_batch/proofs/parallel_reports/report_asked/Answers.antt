@@ -3,6 +3,6 @@ use Rattle.ea_report.specs.Asked.{shape_of}
 use Rattle.ea_batch.proofs.Going.{stops_at_once}
 use Rattle.ea_batch.proofs.parallel_reports.report_asked.Goals as goal
 
-pub returns-in-Err-clause-err : goal.returns-in-Err-clause-err
-returns-in-Err-clause-err g c =
+pub returns-in-Err : goal.returns-in-Err
+returns-in-Err g c =
     stops_at_once (shape_of c.args.job.shown) c.args.job.road.now.network (times_on c.args.job.road.now) c.args.job.queries.now (g.W.Device.seen c.args.out.now) c.requires.some

@@ -4,10 +4,10 @@ use Rattle.std.proofs.Common.{arith}
 use Rattle.ea_batch.proofs.parallel_reports.send_round.Goals as goal
 use Rattle.ea_batch.proofs.parallel_reports.send_round.Goals.{in-Some+in_ok-send_part-in-Some, in-None+else-not-help}
 
-pub returns-in_err-send_part-in-Some-clause-err : goal.returns-in_err-send_part-in-Some-clause-err
-returns-in_err-send_part-in-Some-clause-err g c =
+pub returns-in_err-send_part-in-Some : goal.returns-in_err-send_part-in-Some
+returns-in_err-send_part-in-Some g c =
     let p = err_from_is_err_and c.from_residual.result c.from_residual.ensures.1 in
-    rw (p.1, p.2) (stops_later c.args.job c.args.from c.loop.sent _ _ _ _ _ c.loop.invariant.went _ c.in_err-send_part-in-Some.ensures.err)
+    rw (p.1, p.2) (stops_later c.args.job c.args.from c.loop.sent _ _ _ _ _ c.loop.invariant.went _ c.in_err-send_part-in-Some.ensures.sends)
 
 pub loop-init : goal.loop-init
 loop-init g c = record {
@@ -22,14 +22,11 @@ loop-preserved g c =
     let network = c.args.job.road.now.network in
     elim c.match-take.branch [
       | in-Some+in_ok-send_part-in-Some w ↦ rw (w.progress-is, w.desk-is, w.out-is, w.sent-is) (record {
-        went = goes_further c.args.job c.args.from c.loop.sent _ _ _ _ _ inv.went w.end_of_part.result _ w.in_ok-send_part-in-Some.ensures.ok;
+        went = goes_further c.args.job c.args.from c.loop.sent _ _ _ _ _ inv.went w.end_of_part.result _ w.in_ok-send_part-in-Some.ensures.sends.went;
         onward = omega (arith, inv.onward, w.end_of_part.ensures.0);
         can = record {
-          is_job = inv.can.is_job;
+          stands = w.in_ok-send_part-in-Some.ensures.sends.stands;
           inside = w.end_of_part.ensures.1;
-          room = w.in_ok-send_part-in-Some.ensures.bound;
-          search = w.in_ok-send_part-in-Some.ensures.search;
-          aids = rw w.send_part.ensures.aids inv.can.aids;
           piled = c.take.ensures.pile;
         };
       })
@@ -37,35 +34,37 @@ loop-preserved g c =
         went = inv.went;
         onward = inv.onward;
         can = record {
-          is_job = inv.can.is_job;
+          stands = record {
+            is_job = inv.can.stands.is_job;
+            room = inv.can.stands.room;
+            aided = record { search = w.help.ensures.search; aids = inv.can.stands.aided.aids };
+          };
           inside = inv.can.inside;
-          room = inv.can.room;
-          search = w.help.ensures.search;
-          aids = inv.can.aids;
           piled = w.help.ensures.pile;
         };
       })
     ]
 
-pub returns-after-loop-clause-ok : goal.returns-after-loop-clause-ok
-returns-after-loop-clause-ok g c = record { went = c.loop.invariant.went; onward = c.loop.invariant.onward; can = c.loop.invariant.can }
+pub returns-after-loop : goal.returns-after-loop
+returns-after-loop g c = record { went = c.loop.invariant.went; onward = c.loop.invariant.onward; can = c.loop.invariant.can }
 
-pub returns-then-sent-job-clause-ok : goal.returns-then-sent-job-clause-ok
-returns-then-sent-job-clause-ok g c = record { went = c.loop.invariant.went; onward = c.loop.invariant.onward; can = c.loop.invariant.can }
+pub returns-then-sent-job : goal.returns-then-sent-job
+returns-then-sent-job g c = record { went = c.loop.invariant.went; onward = c.loop.invariant.onward; can = c.loop.invariant.can }
 
-pub returns-then-not-help-clause-ok : goal.returns-then-not-help-clause-ok
-returns-then-not-help-clause-ok g c =
+pub returns-then-not-help : goal.returns-then-not-help
+returns-then-not-help g c =
     let inv = c.loop.invariant in
     let network = c.args.job.road.now.network in
     record {
       went = inv.went;
       onward = inv.onward;
       can = record {
-        is_job = inv.can.is_job;
+        stands = record {
+          is_job = inv.can.stands.is_job;
+          room = inv.can.stands.room;
+          aided = record { search = c.help.ensures.search; aids = inv.can.stands.aided.aids };
+        };
         inside = inv.can.inside;
-        room = inv.can.room;
-        search = c.help.ensures.search;
-        aids = inv.can.aids;
         piled = c.help.ensures.pile;
       };
     }

@@ -1,24 +1,24 @@
-use Rattle.std.proofs.Common.{[], ◌≤◌, length, refl, sym, subst, ap, arith}
+use Rattle.std.proofs.Common.{◌≡◌, [], length, refl, sym, subst, ap, arith}
 use Rattle.std.proofs.lemmas.Result.{err_from_is_err_and}
-use Rattle.ea_load.specs.Posed.{times_on}
+use Rattle.ea_load.specs.Posed.{IsPosed, times_on}
+use Rattle.earliest.specs.Counted.{AreTotals}
 use Rattle.earliest.specs.Workers.{settings_by}
 use Rattle.earliest.proofs.Counting.{totals_next}
 use Rattle.ea_batch.proofs.Sent.{stops, sent_next, sent_none}
 use Rattle.std.proofs.lemmas.List.{take_all}
-use Rattle.ea_road.specs.Queries.{Asking, IsProblem}
 use Rattle.ea_report.specs.Asked.{Shape, chosen_by, shape_of}
 use Rattle.ea_batch.specs.Sent.{AreSent}
 use Rattle.earliest.proofs.Sending.{cut_in_problem}
 use Rattle.earliest.proofs.reports.report_each.Goals as goal
 
-pub returns-in_err-report-clause-err : goal.returns-in_err-report-clause-err
-returns-in_err-report-clause-err g c =
+pub returns-in_err-report : goal.returns-in_err-report
+returns-in_err-report g c =
     let p = err_from_is_err_and c.from_residual.result c.from_residual.ensures.1 in
     let first = g.W.Device.seen c.args.out.now in
     let shown = c.args.watched.shown in
     let road = c.args.road.now in
-    let cut = stops (shape_of shown) road.network (times_on road) c.args.queries.now c.loop-query.query-index c.query-item.result c.loop-query-test.true c.query-item.is first _ _ _ c.loop-query.invariant.sent _ c.in_err-report.ensures.err in
-    rw (p.1, p.2) (cut_in_problem c.args.options.now (chosen_by shown) (shape_of shown) c.requires.asked road.network (times_on road) c.args.queries.now first _ _ cut)
+    let cut = stops (shape_of shown) road.network (times_on road) c.args.queries.now c.loop-query.query-index c.query-item.result c.loop-query-test.true c.query-item.is first _ _ _ c.loop-query.invariant.sent _ c.in_err-report.ensures.sends in
+    rw (p.1, p.2) (cut_in_problem c.args.options.now (chosen_by shown) (shape_of shown) c.requires.run.asked road.network (times_on road) c.args.queries.now first _ _ cut)
 
 pub loop-query-preserved : goal.loop-query-preserved
 loop-query-preserved g c =
@@ -29,8 +29,8 @@ loop-query-preserved g c =
     record {
       done = omega (arith, inv.done);
       fits = inv.fits;
-      sent = sent_next (shape_of c.args.watched.shown) c.args.road.now.network (times_on c.args.road.now) c.args.queries.now i c.query-item.result c.loop-query-test.true c.query-item.is first _ now _ c.report.new.self.progress.written inv.fits inv.sent c.in_ok-report.ensures.ok;
-      bound = omega (arith, c.in_ok-report.ensures.bound, inv.bound);
+      sent = sent_next (shape_of c.args.watched.shown) c.args.road.now.network (times_on c.args.road.now) c.args.queries.now i c.query-item.result c.loop-query-test.true c.query-item.is first _ now _ c.report.new.self.progress.written inv.fits inv.sent c.in_ok-report.ensures.sends.sent;
+      bound = omega (arith, c.in_ok-report.ensures.sends.bound, inv.bound);
       counted = λ asked. let more = c.in_ok-report.ensures.counted asked in totals_next (settings_by c.args.options.now) c.args.queries.now i c.query-item.result c.loop-query-test.true c.query-item.is _ _ (inv.counted asked) more.0 more.1 more.2;
       small = c.in_ok-report.ensures.more.small i inv.small;
       balanced = c.in_ok-report.ensures.more.balanced;
@@ -47,39 +47,42 @@ loop-query-init g c =
     record {
       done = refl;
       fits = omega (arith, c.interruptions.ensures, c.interruptions.type_inv);
-      sent = subst (λ n. AreSent (shape_of c.args.watched.shown) network times [] first first n) (sym begun.written) (sent_none (shape_of c.args.watched.shown) network times first);
-      bound = omega (arith, begun.written);
-      counted = λ asked. record { all = []; counted = tt; sums = begun.totals };
-      small = begun.small;
-      balanced = begun.balanced;
-      aids = rw begun.aids c.requires.aids;
-      search = rw begun.search tt;
+      sent = subst (λ n. AreSent (shape_of c.args.watched.shown) network times [] first first n) (sym begun.progress.written) (sent_none (shape_of c.args.watched.shown) network times first);
+      bound = omega (arith, begun.progress.written);
+      counted = λ asked. record { all = []; counted = tt; sums = begun.totals.none };
+      small = begun.totals.small;
+      balanced = begun.totals.balanced;
+      aids = rw begun.progress.aids c.requires.run.aids;
+      search = rw begun.progress.search tt;
     }
 
-pub returns-clause-ok : goal.returns-clause-ok
-returns-clause-ok g c =
+pub returns : goal.returns
+returns g c =
     let road = c.args.road.now in
-    let all = take_all c.loop-query.query-index c.args.queries.now (omega (arith, c.loop-query-test.false)) in
-    subst (λ qs. AreSent (shape_of c.args.watched.shown) road.network (times_on road) qs (g.W.Device.seen c.args.out.now) (g.W.Device.seen c.loop-query.out) c.loop-query.reports.progress.written) all c.loop-query.invariant.sent
-
-pub report-requires-clause-posed : goal.report-requires-clause-posed
-report-requires-clause-posed g c κs lent =
-    let road = c.args.road.now in
-    let one = c.requires.problems c.loop-query.query-index c.query-item.result c.loop-query-test.true in
-    record {
-      problem = subst (λ (query : Asking). IsProblem road.network (length road.times.tables.list.items) query) (sym c.query-item.is) one.0;
-      few_sources = subst (λ (query : Asking). length query.sources ≤ 1000000) (sym c.query-item.is) one.1;
-      few_nodes = c.requires.few.1;
-    }
-
-pub report-requires-clause-running : goal.report-requires-clause-running
-report-requires-clause-running g c κs lent =
     let inv = c.loop-query.invariant in
+    let end : c.loop-query.query-index ≡ length c.args.queries.now = omega (arith, c.loop-query-test.false, c.loop-query.auto.query-index-end) in
+    let all = take_all c.loop-query.query-index c.args.queries.now (omega (arith, c.loop-query-test.false)) in
     record {
-      room = omega (arith, inv.bound, c.requires.few.0, c.loop-query-test.true);
-      small = (c.loop-query.query-index, omega (arith, c.requires.few.0, c.loop-query-test.true), inv.small);
+      sent = subst (λ qs. AreSent (shape_of c.args.watched.shown) road.network (times_on road) qs (g.W.Device.seen c.args.out.now) (g.W.Device.seen c.loop-query.out) c.loop-query.reports.progress.written) all inv.sent;
+      bound = omega (arith, inv.bound, end, c.requires.run.reportable.few);
+      counted = λ asked. subst (λ qs. AreTotals (settings_by c.args.options.now) qs c.loop-query.reports.totals) all (inv.counted asked);
       balanced = inv.balanced;
     }
 
-pub report-requires-clause-walks : goal.report-requires-clause-walks
-report-requires-clause-walks g c κs lent = ap (λ (shape : Shape). shape.style.walks) c.requires.asked
+pub report-requires-clause-run : goal.report-requires-clause-run
+report-requires-clause-run g c κs lent =
+    let road = c.args.road.now in
+    let inv = c.loop-query.invariant in
+    let reportable = c.requires.run.reportable in
+    let posed = subst (IsPosed road) (sym c.query-item.is) (reportable.problems c.loop-query.query-index c.query-item.result c.loop-query-test.true) in
+    record {
+      reportable = record { problem = posed.0; few_sources = posed.1; few_nodes = reportable.few_nodes; shown = reportable.shown };
+      options_are = c.requires.run.options_are;
+      walks = ap (λ (shape : Shape). shape.style.walks) c.requires.run.asked;
+      running = record {
+        room = omega (arith, inv.bound, reportable.few, c.loop-query-test.true);
+        small = (c.loop-query.query-index, omega (arith, reportable.few, c.loop-query-test.true), inv.small);
+        balanced = inv.balanced;
+      };
+      aided = record { search = inv.search; aids = inv.aids };
+    }

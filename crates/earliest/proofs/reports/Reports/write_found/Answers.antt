@@ -3,10 +3,12 @@ use Rattle.ea_load.specs.Posed.{times_on}
 use Rattle.ea_batch.proofs.Showing.{answer_shown, arrivals_shown}
 use Rattle.earliest.proofs.reports.Reports.write_found.Goals as goal
 
-pub write-requires-clause-arrivals : goal.write-requires-clause-arrivals
-write-requires-clause-arrivals g c =
-    arrivals_shown c.args.road.now.network (times_on c.args.road.now) (chosen_by c.args.shown) c.args.query.now c.args.found.now.answer c.requires.arrivals
-
-pub write-requires-clause-canonical : goal.write-requires-clause-canonical
-write-requires-clause-canonical g c = λ walks.
-    answer_shown c.args.road.now.network (times_on c.args.road.now) (chosen_by c.args.shown) c.args.query.now c.args.found.now.answer (c.requires.canonical walks)
+pub write-requires-clause-solves : goal.write-requires-clause-solves
+write-requires-clause-solves g c =
+    let road = c.args.road.now in
+    let query = c.args.query.now in
+    let answer = c.args.found.now.answer in
+    record {
+      arrivals = arrivals_shown road.network (times_on road) (chosen_by c.args.shown) query answer c.requires.found.arrivals;
+      canonical = λ walks. answer_shown road.network (times_on road) (chosen_by c.args.shown) query answer (c.requires.found.canonical walks);
+    }
