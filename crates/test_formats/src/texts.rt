@@ -1,4 +1,5 @@
 use crate::asserts::{assert_none_wrong, ends_in, is_shown};
+use ea_blocks::{ReadFault, read_all};
 use ea_bytes::*;
 use std::alloc::Global;
 use std::io::{self, Error, ErrorKind, Read, Write};
