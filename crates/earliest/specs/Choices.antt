@@ -1,13 +1,20 @@
 -- Which search a problem gets, by what was asked, the number of processors, and the size. No
 -- byte of a report depends on it; its time does.
-use Rattle.std.specs.Prelude.{ℕ, ◌*◌, ◌^◌, ◌/◌, ◌-◌, Bool, Option, Some, None, min, max, if◌then◌else◌, is_some, nat_le, nat_lt, ◌==◌, ◌&&◌, ◌||◌, not, unwrap_or}
+use Rattle.std.specs.Prelude.{◌≡◌, ◌≤◌, ℕ, true, ◌*◌, ◌^◌, ◌/◌, ◌-◌, Bool, Option, Some, None, min, max, if◌then◌else◌, is_some, nat_le, nat_lt, ◌==◌, ◌&&◌, ◌||◌, not, unwrap_or}
 use Rattle.ea_base.specs.declared.limits.TheConstants.{MOST_AT_ONCE, MOST_TURNS, MOST_WORKERS}
+use Rattle.ea_engine.specs.Limits.{AreSettings}
 use Rattle.ea_engine.specs.declared.settings.Settings.{Settings}
 use Rattle.ea_options.specs.Limits.{counted_workers}
 use Rattle.ea_options.specs.declared.options.RunOptions.{RunOptions}
 use Rattle.earliest.specs.Workers.{settings_with}
 use Rattle.earliest.specs.declared.solver_choice.TheConstants.{FEW_FOR_TWO, FEW_NODES, MANY_FOR_TWO, MANY_NODES, TURNS}
 use Rattle.earliest.specs.declared.preparing.TheConstants.{FEW_PROBLEMS, OFFERS_BY_NODE}
+
+-- A number from 1 to a most is this choice.
+pub record IsChosen (most choice number : ℕ) : Type 0 where
+  pub some : 1 ≤ number
+  pub few : number ≤ most
+  pub chosen : number ≡ choice
 
 -- The number of problems that are searched at once: as asked for; else one if workers or statistics are asked for; else
 -- one for each processor.
@@ -49,6 +56,13 @@ abbrev pub settings_for : RunOptions → ℕ → Settings
 settings_for options workers =
     if options.stats || not (options.turns == TURNS) then settings_with options workers
     else record (settings_with options workers) { turns = MOST_TURNS }
+
+-- Allowed settings of this number of workers are those; with statistics, as options ask for.
+pub record AreSettingsFor (options : RunOptions) (workers : ℕ) (settings : Settings) : Type 0 where
+  pub allowed : AreSettings settings
+  pub workers_are : settings.workers ≡ workers
+  pub asked : options.stats ≡ true → settings ≡ settings_with options workers
+  pub chosen : settings ≡ settings_for options workers
 
 -- Several threads search problems at the same time, each by itself.
 abbrev pub goes_ahead : RunOptions → ℕ → ℕ → Bool

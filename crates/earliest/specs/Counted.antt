@@ -8,7 +8,7 @@ use Rattle.ea_engine.specs.declared.worker.turn.Flow.{Flow}
 use Rattle.ea_engine.specs.declared.worker.turn.Flow.TheVariants.{Go}
 use Rattle.ea_engine.specs.declared.worker.turn.Turn.{Turn}
 use Rattle.ea_engine.specs.Companies.{StaysOn}
-use Rattle.ea_engine.specs.Limits.{pace_of}
+use Rattle.ea_engine.specs.Limits.{AreSettings, pace_of}
 use Rattle.ea_engine.specs.Tallies.{IsTally, IsLoneTally, pushed_by_all, popped_by_all}
 use Rattle.ea_engine.specs.Turns.{Told, IsTurnList, AreCounters}
 use Rattle.ea_report.specs.declared.stats.Totals.{Totals}
@@ -29,6 +29,13 @@ StaysAmong workers turns = StaysOn 0 turns × (workers ≡ 1 → All (λ t. t.1 
 -- For all turns that a tracer sees, its worker stays.
 abbrev pub KeepsOn : {T : Type 0} → (T → Turn → Flow → T → Type 0) → ℕ → T → Type 0
 KeepsOn {T} shows workers tracer = (turns : List Told) (last : T) → FoldsTo (λ p t q. shows p t.0 t.1 q) tracer turns last → StaysAmong workers turns
+
+-- Workers with these settings can run: each has a generator, and a tracer that may be called and by which it stays.
+pub record CanRun {T : Type 0} (IsCallable : T → Type 0) (shows : T → Turn → Flow → T → Type 0) (settings : Settings) (rngs tracers_len : ℕ) (tracers : List T) : Type 0 where
+  pub settings_are : AreSettings settings
+  pub workers : (rngs ≡ settings.workers) × (tracers_len ≡ settings.workers)
+  pub callable : All IsCallable tracers
+  pub stays : All (KeepsOn shows settings.workers) tracers
 
 -- A worker counted the turns of a lawful list of turns, and stayed.
 pub record CountsTurns (settings : Settings) (counters : Counters) : Type 0 where

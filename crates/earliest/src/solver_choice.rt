@@ -1,15 +1,15 @@
 //! Choosing how a problem is searched: by workers or by the search of one thread.
-ghost use Rattle.std.specs.Prelude.{◌≡◌, ◌≤◌, ◌||◌, ℕ, All, IfOk, IfSome, Option, false, is_some, length, replicate, true, vec_len};
+ghost use Rattle.std.specs.Prelude.{◌≡◌, ◌≤◌, ◌||◌, ℕ, IfOk, IfSome, Option, false, is_some, length, replicate, true, vec_len};
 ghost use Rattle.ea_base.specs.declared.limits.TheConstants.{MOST_AT_ONCE, MOST_STARTS, MOST_WORKERS};
 ghost use Rattle.ea_load.specs.Posed.{IsPosed};
 ghost use Rattle.ea_engine.specs.Companies.{idle_with, IsIdleFor, LeavesAs};
 ghost use Rattle.ea_engine.specs.Limits.{AreSettings};
 ghost use Rattle.ea_engine.specs.Tallies.{IsTally};
 ghost use Rattle.ea_options.specs.Limits.{AreOptions, counted_workers};
-ghost use Rattle.earliest.specs.Counted.{AreOfOne, IsTotal, KeepsOn, totals_by};
+ghost use Rattle.earliest.specs.Counted.{AreOfOne, CanRun, IsTotal, KeepsOn, totals_by};
 ghost use Rattle.ea_rank_command.specs.Generators.{generators_from};
 ghost use Rattle.earliest.specs.Running.{IsFound};
-ghost use Rattle.earliest.specs.Choices.{asks_for_workers, at_once_on, goes_ahead, settings_for, workers_asked, workers_by, workers_for, workers_on};
+ghost use Rattle.earliest.specs.Choices.{AreSettingsFor, IsChosen, asks_for_workers, at_once_on, goes_ahead, workers_asked, workers_by, workers_for, workers_on};
 ghost use Rattle.earliest.specs.Workers.{AreAtHome, settings_with};
 
 use crate::totals::work_of;
@@ -85,8 +85,7 @@ pub(crate) fn threads_at_once<H: Threads>(rt: &H, options: &RunOptions) -> usize
 fn at_once(processors: Option<usize>, options: &RunOptions) -> usize
     requires options { AreOptions options.now }
     requires processors { IfSome processors (λ count. 1 ≤ count) }
-    ensures limits { (1 ≤ result) × (result ≤ MOST_AT_ONCE) }
-    ensures chosen { result ≡ at_once_on processors options.now }
+    ensures { IsChosen MOST_AT_ONCE (at_once_on processors options.now) result }
 {
     match options.at_once {
         Some(threads) => threads as usize,
@@ -117,8 +116,7 @@ pub(crate) fn goes_ahead(options: &RunOptions, threads: usize, problems: usize) 
 /// One worker for each processor, if that many are faster on this number of nodes than one thread; else one.
 fn workers_on(processors: Option<usize>, nodes: u32) -> u32
     requires { IfSome processors (λ count. 1 ≤ count) }
-    ensures limits { (1 ≤ result) × (result ≤ MOST_WORKERS) }
-    ensures chosen { result ≡ workers_on processors nodes }
+    ensures { IsChosen MOST_WORKERS (workers_on processors nodes) result }
 {
     match processors {
         Some(count) if count >= 4 || nodes >= MANY_FOR_TWO => {
@@ -133,8 +131,7 @@ fn workers_on(processors: Option<usize>, nodes: u32) -> u32
 fn workers_asked(processors: Option<usize>, workers: u32, nodes: u32) -> u32
     requires processors { IfSome processors (λ count. 1 ≤ count) }
     requires workers { (1 ≤ workers) × (workers ≤ MOST_WORKERS) }
-    ensures limits { (1 ≤ result) × (result ≤ MOST_WORKERS) }
-    ensures chosen { result ≡ workers_asked processors workers nodes }
+    ensures { IsChosen MOST_WORKERS (workers_asked processors workers nodes) result }
 {
     let most = processors.unwrap_or(MOST_WORKERS as usize);
     let workers = (workers as usize).min(most) as u32;
@@ -151,8 +148,7 @@ fn workers_asked(processors: Option<usize>, workers: u32, nodes: u32) -> u32
 fn workers_by(processors: Option<usize>, workers: Option<u64>, nodes: u32, is_alone: bool) -> u32
     requires processors { IfSome processors (λ count. 1 ≤ count) }
     requires workers { IfSome workers (λ count. (1 ≤ count) × (count ≤ MOST_WORKERS)) }
-    ensures limits { (1 ≤ result) × (result ≤ MOST_WORKERS) }
-    ensures chosen { result ≡ workers_by processors workers nodes is_alone }
+    ensures { IsChosen MOST_WORKERS (workers_by processors workers nodes is_alone) result }
 {
     match workers {
         Some(workers) => workers_asked(processors, workers as u32, nodes),
@@ -170,8 +166,7 @@ fn workers_by(processors: Option<usize>, workers: Option<u64>, nodes: u32, is_al
 fn workers_for(processors: Option<usize>, nodes: u32, is_few: bool, options: &RunOptions) -> u32
     requires options { AreOptions options.now }
     requires processors { IfSome processors (λ count. 1 ≤ count) }
-    ensures limits { (1 ≤ result) × (result ≤ MOST_WORKERS) }
-    ensures chosen { result ≡ workers_for processors nodes is_few options.now }
+    ensures { IsChosen MOST_WORKERS (workers_for processors nodes is_few options.now) result }
 {
     if options.stats {
         return options.counted_workers() as u32;
@@ -217,10 +212,7 @@ const BATCH: u64 = 32;
 fn settings_of(options: &RunOptions, workers: u32) -> Settings
     requires options { AreOptions options.now }
     requires workers { (1 ≤ workers) × (workers ≤ MOST_WORKERS) }
-    ensures settings { AreSettings result }
-    ensures workers { result.workers ≡ workers }
-    ensures asked { options.now.stats ≡ true → result ≡ settings_with options.now workers }
-    ensures chosen { result ≡ settings_for options.now workers }
+    ensures { AreSettingsFor options.now workers result }
 {
     let is_alone = workers == 1;
     let is_counted = options.stats || options.turns != TURNS;
@@ -323,10 +315,8 @@ fn find_walks<H: Threads + Sync, R: Rng + Send + Drop, T: FnMut(Turn) -> Flow + 
     tracers: Vec<T>,
 ) -> Result<Found, AllocError>
     requires posed { IsPosed road.now query.now }
-    requires settings { AreSettings settings }
-    requires workers { (vec_len rngs ≡ settings.workers) × (vec_len tracers ≡ settings.workers) }
-    requires tracers { All T.IsAlwaysCallable tracers.items }
-    requires stays { All (KeepsOn T.step settings.workers) tracers.items }
+    requires crew { CanRun T.IsAlwaysCallable T.step settings
+        (vec_len rngs) (vec_len tracers) tracers.items }
     ensures found { IfOk result (IsFound true road.now query.now) }
     ensures counted { IfOk result (λ found. IsTotal settings query.now found.totals) }
 {
@@ -366,10 +356,8 @@ fn find_arrivals<H: Threads + Sync, R: Rng + Send + Drop, T: FnMut(Turn) -> Flow
     tracers: Vec<T>,
 ) -> Result<Found, AllocError>
     requires posed { IsPosed road.now query.now }
-    requires settings { AreSettings settings }
-    requires workers { (vec_len rngs ≡ settings.workers) × (vec_len tracers ≡ settings.workers) }
-    requires tracers { All T.IsAlwaysCallable tracers.items }
-    requires stays { All (KeepsOn T.step settings.workers) tracers.items }
+    requires crew { CanRun T.IsAlwaysCallable T.step settings
+        (vec_len rngs) (vec_len tracers) tracers.items }
     ensures found { IfOk result (IsFound false road.now query.now) }
     ensures counted { IfOk result (λ found. IsTotal settings query.now found.totals) }
 {

@@ -11,8 +11,8 @@ returns-clause-counted g c =
     let settings = c.args.settings in
     let workers = solved.counters.items in
     let one_each : length workers ≡ settings.workers = omega (arith, solved.counters.ok.0, made.counters_len) in
-    let rngs : length workers ≡ length c.args.rngs.items = omega (arith, one_each, c.args.rngs.ok.0, c.requires.workers.0) in
-    let tracers : length workers ≡ length c.args.tracers.items = omega (arith, one_each, c.args.tracers.ok.0, c.requires.workers.1) in (
+    let rngs : length workers ≡ length c.args.rngs.items = omega (arith, one_each, c.args.rngs.ok.0, c.requires.crew.workers.0) in
+    let tracers : length workers ≡ length c.args.tracers.items = omega (arith, one_each, c.args.tracers.ok.0, c.requires.crew.workers.1) in (
       record { seeded = solved.seeded; returned = solved.returned; drained = solved.drained; finish = solved.finish; workers = workers },
       record {
         one_each = one_each;
@@ -24,7 +24,7 @@ returns-clause-counted g c =
               turns = report.turns;
               lawful = report.lawful;
               counted = report.counted;
-              stays = c.requires.stays k (one_of c.args.tracers.items k traced) traced report.turns _ report.shown;
+              stays = c.requires.crew.stays k (one_of c.args.tracers.items k traced) traced report.turns _ report.shown;
             };
         tally = made.tally;
         lone = made.lone;
