@@ -10,7 +10,7 @@ use Rattle.ea_load.specs.declared.road.Road.{Road}
 use Rattle.ea_load.specs.Posed.{times_on}
 use Rattle.ea_search.specs.Listings.{Searched}
 use Rattle.ea_batch.specs.Shown.{IsShownIn, IsShownOf}
-use Rattle.ea_batch.specs.Solved.{IsFoundAt, IsFoundOn}
+use Rattle.ea_batch.specs.Solved.{HasFoundAt, HasFoundOn}
 
 shown_by : (chosen : Option (List ℕ)) (target : Option ℕ) (node : ℕ) → IsShownOf chosen target node → IsAskedBy target node
 shown_by chosen (Some target) node is = is
@@ -25,7 +25,7 @@ module _ (roads : Roads) (answers : ℕ → ℕ → ℕ → ℕ → Type 0) (cho
   answer_shown = answer_at roads answers query (IsShownIn chosen query) (shown_by chosen query.target) answer
 
 -- so what a search found for all asked nodes is found for those
-pub found_shown : (chosen : Option (List ℕ)) (walks : Bool) (road : Road) (query : Asking) (search : Searched) → IsFoundOn walks road query search → IsFoundAt chosen walks road query search
+pub found_shown : (chosen : Option (List ℕ)) (walks : Bool) (road : Road) (query : Asking) (search : Searched) → HasFoundOn walks road query search → HasFoundAt chosen walks road query search
 found_shown chosen walks road query search found = record {
   solves = record {
     arrivals = arrivals_shown road.network (times_on road) chosen query search.answer found.arrivals;

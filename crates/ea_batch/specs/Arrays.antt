@@ -13,7 +13,7 @@ pub record IsAided (road : Road) (walks : Bool) (arrays : Option Searching) (mea
   pub aids : AreAidsOn road means
 
 -- Nothing was sent and no arrays are there yet.
-pub record IsBegun (means : Aids) (progress : Progress) : Type 0 where
+pub record HasSentNothing (means : Aids) (progress : Progress) : Type 0 where
   pub written : progress.written ≡ 0
   pub search : progress.search ≡ None
   pub aids : progress.aids ≡ means

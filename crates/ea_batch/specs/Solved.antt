@@ -67,12 +67,12 @@ pub record Solves (chosen : Option (List ℕ)) (walks : Bool) (road : Road) (que
   pub canonical : walks ≡ true → AnswersAt chosen road query answer
 
 -- A search found that.
-pub record IsFoundAt (chosen : Option (List ℕ)) (walks : Bool) (road : Road) (query : Asking) (search : Searched) : Type 0 where
+pub record HasFoundAt (chosen : Option (List ℕ)) (walks : Bool) (road : Road) (query : Asking) (search : Searched) : Type 0 where
   pub solves : Solves chosen walks road query search.answer
   pub ready : IsReady road.network walks search
 
 -- A search found the least arrivals of all nodes that are asked for and, with walks, their canonical walks.
-pub record IsFoundOn (walks : Bool) (road : Road) (query : Asking) (search : Searched) : Type 0 where
+pub record HasFoundOn (walks : Bool) (road : Road) (query : Asking) (search : Searched) : Type 0 where
   pub arrivals : ArrivesOn road query search.answer
   pub canonical : walks ≡ true → AnswersOn road query search.answer
   pub ready : IsReady road.network walks search

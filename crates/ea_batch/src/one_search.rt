@@ -4,7 +4,7 @@ ghost use Rattle.ea_road.specs.Roads.{IsNode};
 ghost use Rattle.ea_report.specs.Asked.{chosen_by, shape_of};
 ghost use Rattle.ea_layout.specs.Orders.{LaysOut};
 ghost use Rattle.ea_search.specs.Listings.{Searched};
-ghost use Rattle.ea_batch.specs.Solved.{AreAidsOn, IsFoundAt, IsFoundOn, IsPreparedOn, IsReady, IsShown, MaySearch, Serves, searched};
+ghost use Rattle.ea_batch.specs.Solved.{AreAidsOn, HasFoundAt, HasFoundOn, IsPreparedOn, IsReady, IsShown, MaySearch, Serves, searched};
 
 use crate::searching::{Aids, Searching, few_chosen};
 use ea_asked::AskedSearch;
@@ -73,7 +73,7 @@ fn search_plain(
 ) -> Result<Search, AllocError>
     requires may { MaySearch road.now walks query.now last }
     requires prepared { IfSome prepared (λ p. IsPreparedOn road.now p.now) }
-    ensures { IfOk result (IsFoundOn walks road.now query.now) }
+    ensures { IfOk result (HasFoundOn walks road.now query.now) }
 {
     let search = plain_arrays(alloc, road, walks, last)?;
     match prepared {
@@ -95,7 +95,7 @@ fn search_laid(
 ) -> Result<LaidSearch, AllocError>
     requires may { MaySearch road.now walks query.now last }
     requires layout { LaysOut road.now.network layout.now }
-    ensures { IfOk result (IsFoundOn walks road.now query.now) }
+    ensures { IfOk result (HasFoundOn walks road.now query.now) }
 {
     let search = laid_arrays(alloc, road, walks, last)?;
     if walks {
@@ -140,7 +140,7 @@ fn search_asked(
     requires may { MaySearch road.now walks query.now last }
     requires all { query.now.target ≡ None }
     requires asked { All (IsNode road.now.network.nodes) asked.now }
-    ensures { IfOk result (IsFoundAt (Some asked.now) walks road.now query.now) }
+    ensures { IfOk result (HasFoundAt (Some asked.now) walks road.now query.now) }
 {
     let search = asked_arrays(alloc, road, walks, last)?;
     search.find(alloc, &road.network, &road.times, query, asked)
@@ -157,7 +157,7 @@ fn search_whole(
 ) -> Result<Searching, AllocError>
     requires may { MaySearch road.now walks query.now last }
     requires aids { AreAidsOn road.now aids }
-    ensures { IfOk result (λ search. IsFoundOn walks road.now query.now (searched search)) }
+    ensures { IfOk result (λ search. HasFoundOn walks road.now query.now (searched search)) }
 {
     match aids.layout {
         Some(layout) => {
@@ -184,7 +184,7 @@ pub(crate) fn search(
     requires may { MaySearch road.now shown.style.walks query.now last }
     requires shown { IsShown road.now.network (shape_of shown) }
     requires aids { AreAidsOn road.now aids }
-    ensures { IfOk result (λ search. IsFoundAt (chosen_by shown.entry) shown.entry.style.walks
+    ensures { IfOk result (λ search. HasFoundAt (chosen_by shown.entry) shown.entry.style.walks
         road.now query.now (searched search)) }
 {
     let walks = shown.style.walks;

@@ -2,7 +2,7 @@
 ghost use Rattle.std.specs.Prelude.{◌≡◌, ◌≤◌, ◌<◌, ◌+◌, ◌*◌, ◌^◌};
 ghost use Rattle.ea_base.specs.declared.limits.TheConstants.{MOST_STARTS};
 ghost use Rattle.ea_load.specs.Faults;
-ghost use Rattle.ea_batch.specs.Arrays.{CanReport, IsBegun, KeepsArrays, StaysAided};
+ghost use Rattle.ea_batch.specs.Arrays.{CanReport, HasSentNothing, KeepsArrays, StaysAided};
 ghost use Rattle.ea_batch.specs.Reportable.{IsReportable};
 ghost use Rattle.ea_batch.specs.Sending.{SendsReport};
 ghost use Rattle.ea_batch.specs.Solved.{Solves};
@@ -34,7 +34,7 @@ pub struct Progress<'a> {
 impl<'a> Progress<'a> {
     /// Nothing sent yet. The memory of sent texts goes to `used`, if others make texts.
     pub fn begin(aids: Aids<'a>, used: Option<Worker<Vec<u8>>>) -> Progress<'a>
-        ensures { IsBegun aids.entry result }
+        ensures { HasSentNothing aids.entry result }
     {
         Progress {
             written: 0,

@@ -38,7 +38,7 @@ pub record AddsTotals (old more new : Totals) : Type 0 where
   pub has_one_more : HasOneMore old new
 
 -- Workers found the least arrivals of a problem and, with walks, its canonical walks.
-pub record IsFound (walks : Bool) (road : Road) (query : Asking) (found : Found) : Type 0 where
+pub record IsFoundByWorkers (walks : Bool) (road : Road) (query : Asking) (found : Found) : Type 0 where
   pub arrivals : ArrivesOn road query found.answer
   pub canonical : walks ≡ true → AnswersOn road query found.answer
   pub of_one : AreOfOne found.totals

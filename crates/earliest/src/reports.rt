@@ -9,13 +9,13 @@ ghost use Rattle.ea_report.specs.Stats.{stats_text};
 ghost use Rattle.ea_report.specs.declared.stats.Totals.{Totals};
 ghost use Rattle.ea_load.specs.Posed.{AreProblems, times_on};
 ghost use Rattle.ea_options.specs.Limits.{AreOptions};
-ghost use Rattle.ea_batch.specs.Arrays.{IsAided, IsBegun, KeepsArrays};
+ghost use Rattle.ea_batch.specs.Arrays.{IsAided, HasSentNothing, KeepsArrays};
 ghost use Rattle.ea_batch.specs.Reportable.{IsReportable};
 ghost use Rattle.ea_batch.specs.Sending.{SendsReport};
 ghost use Rattle.ea_batch.specs.Solved.{AreAidsOn, IsShown};
 ghost use Rattle.earliest.specs.Counted.{AreNoTotals, IsTotal, plus};
 ghost use Rattle.earliest.specs.Fronts.{IsCutShort, IsWritten, shape_by};
-ghost use Rattle.earliest.specs.Running.{AddsTotals, HasOneMore, IsFound, IsRunning, MayReport, MayReportAll, ReportsAll};
+ghost use Rattle.earliest.specs.Running.{AddsTotals, HasOneMore, IsFoundByWorkers, IsRunning, MayReport, MayReportAll, ReportsAll};
 ghost use Rattle.earliest.specs.Workers.{settings_by};
 
 use crate::solver_choice::{Found, find, goes_ahead, threads_at_once, workers_of};
@@ -41,7 +41,7 @@ impl<'a> Reports<'a> {
     /// Nothing sent yet.
     fn begin(aids: Aids<'a>) -> Reports<'a>
         ensures totals { AreNoTotals result.totals }
-        ensures progress { IsBegun aids.entry result.progress }
+        ensures progress { HasSentNothing aids.entry result.progress }
     {
         Reports {
             totals: no_totals(),
@@ -62,7 +62,7 @@ impl Reports<'_> {
         out: &mut W,
     ) -> Result<(), AnswerFault>
         requires reportable { IsReportable road.now (shape_of shown) query.now }
-        requires found { IsFound shown.style.walks road.now query.now found.now }
+        requires found { IsFoundByWorkers shown.style.walks road.now query.now found.now }
         requires running { IsRunning self.old.progress.written self.old.totals }
         ensures sends { SendsReport (shape_of shown.entry) road.now query.now
             (W.seen out.old) (W.seen out.new)

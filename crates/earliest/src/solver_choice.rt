@@ -8,7 +8,7 @@ ghost use Rattle.ea_engine.specs.Tallies.{IsTally};
 ghost use Rattle.ea_options.specs.Limits.{AreOptions, counted_workers};
 ghost use Rattle.earliest.specs.Counted.{AreOfOne, CanRun, IsTotal, KeepsOn, totals_by};
 ghost use Rattle.ea_rank_command.specs.Generators.{generators_from};
-ghost use Rattle.earliest.specs.Running.{IsFound};
+ghost use Rattle.earliest.specs.Running.{IsFoundByWorkers};
 ghost use Rattle.earliest.specs.Choices.{AreSettingsFor, IsChosen, asks_for_workers, at_once_on, goes_ahead, workers_asked, workers_by, workers_for, workers_on};
 ghost use Rattle.earliest.specs.Workers.{AreAtHome, settings_with};
 
@@ -317,7 +317,7 @@ fn find_walks<H: Threads + Sync, R: Rng + Send + Drop, T: FnMut(Turn) -> Flow + 
     requires posed { IsPosed road.now query.now }
     requires crew { CanRun T.IsAlwaysCallable T.step settings
         (vec_len rngs) (vec_len tracers) tracers.items }
-    ensures found { IfOk result (IsFound true road.now query.now) }
+    ensures found { IfOk result (IsFoundByWorkers true road.now query.now) }
     ensures counted { IfOk result (λ found. IsTotal settings query.now found.totals) }
 {
     let solved = solve(
@@ -358,7 +358,7 @@ fn find_arrivals<H: Threads + Sync, R: Rng + Send + Drop, T: FnMut(Turn) -> Flow
     requires posed { IsPosed road.now query.now }
     requires crew { CanRun T.IsAlwaysCallable T.step settings
         (vec_len rngs) (vec_len tracers) tracers.items }
-    ensures found { IfOk result (IsFound false road.now query.now) }
+    ensures found { IfOk result (IsFoundByWorkers false road.now query.now) }
     ensures counted { IfOk result (λ found. IsTotal settings query.now found.totals) }
 {
     let solved = solve_arrivals(
@@ -401,7 +401,8 @@ fn find_by<H: Threads + Sync, R: Rng + Send + Drop, T: FnMut(Turn) -> Flow + Sen
     requires workers { vec_len rngs ≡ settings.workers }
     requires tracer { T.IsAlwaysCallable tracer }
     requires stays { KeepsOn T.step settings.workers tracer }
-    ensures found { IfOk result (IsFound asked.entry.walks asked.entry.road.now asked.entry.query.now) }
+    ensures found { IfOk result
+        (IsFoundByWorkers asked.entry.walks asked.entry.road.now asked.entry.query.now) }
     ensures counted { IfOk result (λ found. IsTotal settings asked.entry.query.now found.totals) }
 {
     let Asked { road, query, walks } = asked;
@@ -425,7 +426,7 @@ pub(crate) fn find<H: Threads + Sync>(
     requires posed { IsPosed road.now query.now }
     requires options { AreOptions options.now }
     requires workers { (1 ≤ workers) × (workers ≤ MOST_WORKERS) }
-    ensures found { IfOk result (IsFound options.now.walks road.now query.now) }
+    ensures found { IfOk result (IsFoundByWorkers options.now.walks road.now query.now) }
     ensures counted { IfOk result (λ found. options.now.stats ≡ true
         → IsTotal (settings_with options.now workers) query.now found.totals) }
 {

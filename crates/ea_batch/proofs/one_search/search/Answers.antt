@@ -1,6 +1,6 @@
 use Rattle.std.proofs.lemmas.Result.{IfOk-weaker}
 use Rattle.ea_report.specs.Asked.{chosen_by}
-use Rattle.ea_batch.specs.Solved.{IsFoundAt, IsFoundOn, searched}
+use Rattle.ea_batch.specs.Solved.{HasFoundAt, HasFoundOn, searched}
 use Rattle.ea_batch.proofs.Showing.{found_shown}
 use Rattle.ea_batch.proofs.one_search.search.Goals as goal
 
@@ -10,5 +10,5 @@ returns-in_default c =
     let query = c.args.query.now in
     let chosen = chosen_by c.args.shown in
     let walks = c.args.shown.style.walks in
-    IfOk-weaker c.search_whole.result (λ search. IsFoundOn walks road query (searched search)) (λ search. IsFoundAt chosen walks road query (searched search))
+    IfOk-weaker c.search_whole.result (λ search. HasFoundOn walks road query (searched search)) (λ search. HasFoundAt chosen walks road query (searched search))
     (λ search found. found_shown chosen walks road query (searched search) found) c.search_whole.ensures

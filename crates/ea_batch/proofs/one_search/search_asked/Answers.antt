@@ -1,7 +1,7 @@
 use Rattle.std.proofs.Common.{◌≡◌, ◌∙◌, Contains, true}
 use Rattle.std.specs.Prelude.{Some}
 use Rattle.ea_asked.specs.Asked.{HasArrivalsAt, IsAnswerAt}
-use Rattle.ea_batch.specs.Solved.{IsFoundAt}
+use Rattle.ea_batch.specs.Solved.{HasFoundAt}
 use Rattle.ea_batch.proofs.Showing.{answer_chosen, arrivals_chosen, of_four}
 use Rattle.ea_load.specs.Posed.{times_on}
 use Rattle.ea_batch.proofs.one_search.search_asked.Goals as goal
@@ -18,7 +18,7 @@ returns c =
     (λ search. arrays.walks ≡ true → IsAnswerAt road.network (times_on road) query (Contains asked) search.answer)
     (λ search. search.nodes ≡ arrays.nodes)
     (λ search. search.walks ≡ arrays.walks)
-    (IsFoundAt (Some asked) c.args.walks road query)
+    (HasFoundAt (Some asked) c.args.walks road query)
     found.arrivals found.answer found.nodes found.walks
     (λ search arrivals answer nodes walks. record {
       solves = record {
