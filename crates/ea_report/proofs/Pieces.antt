@@ -1,5 +1,5 @@
 -- Texts on their way to a device.
-use Rattle.std.proofs.Common.{◌≡◌, ℕ, zero, suc, ◌+◌, ◌-◌, ◌^◌, ◌<◌, ◌≤◌, List, [], ◌∷◌, ◌++◌, length, take, drop, refl, ap, ap₂, sym, ◌∙◌, inl, inr, arith, subst, length-drop, length-append, append-nil, append_assoc, get_or, map}
+use Rattle.std.proofs.Common.{◌≡◌, ℕ, zero, suc, ◌+◌, ◌-◌, ◌*◌, ◌^◌, ◌<◌, ◌≤◌, List, [], ◌∷◌, ◌++◌, length, take, drop, refl, ap, ap₂, sym, ◌∙◌, inl, inr, arith, subst, length-drop, length-append, append-nil, append_assoc, get_or, map}
 use Rattle.std.proofs.Math.Seq.{take-add, take-length, take-append-add}
 use Rattle.std.proofs.lemmas.List.{take-append-le}
 use Rattle.ea_report.specs.Report.{each_node}
@@ -9,7 +9,9 @@ use Rattle.std.specs.Io.KnownBytes.{Appends}
 use Rattle.std.proofs.KnownBytes.{Appends-trans, Appends-nil}
 use Rattle.ea_bytes.specs.Device.{Seen, one_more, GivesUp, HasGivenUp}
 use Rattle.ea_report.specs.Delivery.{Delivery, all_sent, with_more}
-use Rattle.ea_report.specs.Sent.{AreCounted, HasBorne, IsNotLess, IsCutAt, IsCutBy, IsReason, Delivers, IsWhole, Adds, Cuts, Stops}
+use Rattle.ea_report.specs.Sent.{AreCounted, HasBorne, IsNotLess, IsCutAt, IsCutBy, IsReason, Delivers, IsWhole, Adds, Cuts, GoesOn, Stops}
+use Rattle.ea_report.specs.Writers.{AddsOrGivesUp, AddsOrStops, GoesOnOrCuts}
+use Rattle.ea_report.specs.declared.report.TheConstants.{PIECE}
 use Rattle.ea_report.specs.declared.report.WriteFault.{WriteFault}
 use Rattle.ea_report.specs.declared.report.WriteFaultKind.TheVariants.{WriteFailed}
 use native.Mathlib.Decide.{dec_le}
@@ -171,23 +173,6 @@ stops_sent old now bytes written borne sent cut reason = λ first text way.
     let pending = with_more (all_sent written borne) bytes in
     delivery_cut first old now pending (text ++ bytes) sent cut reason (delivery_more first old (all_sent written borne) text bytes way)
 
--- The same before the outcome of the later part is known.
-pub adds_join : {T : Type 0} (r : Result T WriteFault) (a b c : Seen) (d e f : Delivery) (more next whole : List ℕ) → whole ≡ more ++ next → Adds a d b e more → OnOk r (Adds b e c f next) → OnOk r (Adds a d c f whole)
-adds_join (Ok x) a b c d e f more next whole is one two = rw is (adds_more a b c d e f more next one two)
-adds_join (Err fault) a b c d e f more next whole is one two = tt
-
-pub stops_join : {T : Type 0} (r : Result T WriteFault) (a b c : Seen) (d e : Delivery) (more next rest whole : List ℕ) → whole ≡ (more ++ next) ++ rest → Adds a d b e more → IfErr r (λ fault. Stops b e c fault next) → IfErr r (λ fault. Stops a d c fault whole)
-stops_join (Ok x) a b c d e more next rest whole is adds stops = tt
-stops_join (Err fault) a b c d e more next rest whole is adds stops = stops_more a b c d e fault more next rest whole is adds stops
-
-pub stops_then : {T : Type 0} (r : Result T WriteFault) (a b c : Seen) (d e : Delivery) (more next : List ℕ) → Adds a d b e more → IfErr r (λ fault. Stops b e c fault next) → IfErr r (λ fault. Stops a d c fault (more ++ next))
-stops_then r a b c d e more next adds stops = stops_join r a b c d e more next [] (more ++ next) (sym (append-nil (more ++ next))) adds stops
-
--- A text that stops early stops as the longer text.
-pub stops_early : (a c : Seen) (d : Delivery) (fault : WriteFault) (more rest : List ℕ) → Stops a d c fault more → Stops a d c fault (more ++ rest)
-stops_early a c d fault more rest stops = λ first text way.
-    subst (λ t. IsCutBy first c t fault) (append_assoc text more rest) (cut_more first c (text ++ more) rest fault (stops first text way))
-
 -- A device that is the cause shows it.
 shown : (old new : Seen) → GivesUp old new → HasGivenUp old new
 shown old new (inl p) = elim (dec_le (2 ^ 64 - 1) old.failed) [ yes q ↦ inr (inr (inl (omega (arith, p.0)))) | no q ↦ inl (omega (arith, p.0)) ]
@@ -196,3 +181,119 @@ shown old new (inr p) = elim p.2 [ inl h ↦ inr (inl h) | inr h ↦ inr (inr (i
 pub given_up : {T : Type 0} (r : Result T WriteFault) (first now : Seen) (text : List ℕ) → IfErr r (λ fault. IsCutBy first now text fault) → IfErr r (λ fault. fault.kind ≡ WriteFailed → HasGivenUp first now)
 given_up (Ok x) first now text h = tt
 given_up (Err fault) first now text h = λ e. shown first now (subst (λ k. IsReason k first now) e h.1)
+
+-- ---- what writers did
+
+adds_after : {T : Type 0} (r : Result T WriteFault) (old new : Seen) (d after : Delivery) (pending more : List ℕ) → pending ≡ d.pending ++ more
+    → OnOk r (GoesOn old (record d { pending = pending }) new after) → OnOk r (Adds old d new after more)
+adds_after (Ok x) old new d after pending more e h = λ first text way. h first (text ++ more) (rw e (delivery_more first old d text more way))
+adds_after (Err fault) old new d after pending more e h = tt
+
+-- Lines that were added to what is pending, and sent with it if it was long.
+pub lines_added : {T : Type 0} (r : Result T WriteFault) (old new : Seen) (d after : Delivery) (pending more : List ℕ) → pending ≡ d.pending ++ more
+    → GoesOnOrCuts old (record d { pending = pending }) new after r → OnOk r (length after.pending < PIECE) → AddsOrStops old d new after 1 more r
+lines_added r old new d after pending more e sends held = record {
+  ok = adds_after r old new d after pending more e sends.ok;
+  err = stops_after r old new d pending more e sends.err;
+  bound = omega (arith, sends.bound);
+  small = small r sends.small;
+  held = held;
+}
+  where
+    small : {T : Type 0} (r : Result T WriteFault) → IfErr r (λ fault. fault.written ≤ d.written + 2 ^ 63) → IfErr r (λ fault. fault.written ≤ d.written + 1 * 2 ^ 63)
+    small (Ok x) h = tt
+    small (Err fault) h = omega (arith, h)
+
+-- Some lines, and then the rest of them.
+pub lines_then : {T : Type 0} (r : Result T WriteFault) (a b c : Seen) (d e f : Delivery) (many more_many : ℕ) (more next : List ℕ)
+    → Adds a d b e more → e.written ≤ d.written + many * 2 ^ 63
+    → AddsOrStops b e c f more_many next r → AddsOrStops a d c f (many + more_many) (more ++ next) r
+lines_then (Ok x) a b c d e f many more_many more next adds few then = record {
+  ok = adds_more a b c d e f more next adds then.ok;
+  err = tt;
+  bound = omega (arith, few, then.bound);
+  small = tt;
+  held = then.held;
+}
+lines_then (Err fault) a b c d e f many more_many more next adds few then = record {
+  ok = tt;
+  err = stops_more a b c d e fault more next [] (more ++ next) (sym (append-nil (more ++ next))) adds then.err;
+  bound = omega (arith, few, then.bound);
+  small = omega (arith, few, then.small);
+  held = tt;
+}
+
+-- Lines within which the text stopped, of more.
+pub lines_stop : {T : Type 0} (a b c : Seen) (d e f : Delivery) (fault : WriteFault) (many some most : ℕ) (more next rest whole : List ℕ) → many + some ≤ most → whole ≡ (more ++ next) ++ rest
+    → Adds a d b e more → e.written ≤ d.written + many * 2 ^ 63
+    → Stops b e c fault next → f.written ≤ e.written + some * 2 ^ 63 → fault.written ≤ e.written + some * 2 ^ 63
+    → AddsOrStops {T = T} a d c f most whole (Err fault)
+lines_stop a b c d e f fault many some most more next rest whole few is adds before stops bound small = record {
+  ok = tt;
+  err = stops_more a b c d e fault more next rest whole is adds stops;
+  bound = omega (arith, before, bound, few);
+  small = omega (arith, before, small, few);
+  held = tt;
+}
+
+pub lines_stop_first : {T : Type 0} (a c : Seen) (d f : Delivery) (fault : WriteFault) (some most : ℕ) (next rest : List ℕ) → some ≤ most
+    → Stops a d c fault next → f.written ≤ d.written + some * 2 ^ 63 → fault.written ≤ d.written + some * 2 ^ 63
+    → AddsOrStops {T = T} a d c f most (next ++ rest) (Err fault)
+lines_stop_first a c d f fault some most next rest few stops bound small =
+    lines_stop a a c d d f fault 0 some most [] next rest (next ++ rest) (omega (arith, few)) refl (adds_none a d) (omega arith) stops bound small
+
+-- The same lines, by another name of their text and a greater count.
+pub lines_as : {T : Type 0} (r : Result T WriteFault) (a c : Seen) (d f : Delivery) (many most : ℕ) (more whole : List ℕ) → many ≤ most → more ≡ whole
+    → AddsOrStops a d c f many more r → AddsOrStops a d c f most whole r
+lines_as (Ok x) a c d f many most more whole few is then = record {
+  ok = subst (λ (t : List ℕ). Adds a d c f t) is then.ok;
+  err = tt;
+  bound = omega (arith, then.bound, few);
+  small = tt;
+  held = then.held;
+}
+lines_as (Err fault) a c d f many most more whole few is then = record {
+  ok = tt;
+  err = subst (λ (t : List ℕ). Stops a d c fault t) is then.err;
+  bound = omega (arith, then.bound, few);
+  small = omega (arith, then.small, few);
+  held = tt;
+}
+
+-- A piece that was sent, and then more of them.
+pub pieces_then : {T : Type 0} (r : Result T WriteFault) (a b c : Seen) (d e f : Delivery) (many some most : ℕ) (more next whole : List ℕ) → many + some ≤ most → whole ≡ more ++ next
+    → Adds a d b e more → e.written ≤ d.written + many * 2 ^ 64
+    → AddsOrGivesUp b e c f some next r → AddsOrGivesUp a d c f most whole r
+pieces_then (Ok x) a b c d e f many some most more next whole few is adds before then = record {
+  ok = rw is (adds_more a b c d e f more next adds then.ok);
+  err = tt;
+  device = tt;
+  bound = omega (arith, few, before, then.bound);
+  small = tt;
+}
+pieces_then (Err fault) a b c d e f many some most more next whole few is adds before then = record {
+  ok = tt;
+  err = stops_more a b c d e fault more next [] whole (is ∙ sym (append-nil (more ++ next))) adds then.err;
+  device = then.device;
+  bound = omega (arith, few, before, then.bound);
+  small = omega (arith, few, before, then.small);
+}
+
+-- Pieces within which the device gave up, of more.
+pub pieces_stop : {T : Type 0} (a b c : Seen) (d e f : Delivery) (fault : WriteFault) (many some most : ℕ) (more next rest whole : List ℕ) → many + some ≤ most → whole ≡ (more ++ next) ++ rest
+    → Adds a d b e more → e.written ≤ d.written + many * 2 ^ 64
+    → Stops b e c fault next → fault.kind ≡ WriteFailed → f.written ≤ e.written + some * 2 ^ 64 → fault.written ≤ e.written + some * 2 ^ 64
+    → AddsOrGivesUp {T = T} a d c f most whole (Err fault)
+pieces_stop a b c d e f fault many some most more next rest whole few is adds before stops device bound small = record {
+  ok = tt;
+  err = stops_more a b c d e fault more next rest whole is adds stops;
+  device = device;
+  bound = omega (arith, before, bound, few);
+  small = omega (arith, before, small, few);
+}
+
+pub pieces_stop_first : {T : Type 0} (a c : Seen) (d f : Delivery) (fault : WriteFault) (some most : ℕ) (next rest whole : List ℕ) → some ≤ most → whole ≡ next ++ rest
+    → Stops a d c fault next → fault.kind ≡ WriteFailed → f.written ≤ d.written + some * 2 ^ 64 → fault.written ≤ d.written + some * 2 ^ 64
+    → AddsOrGivesUp {T = T} a d c f most whole (Err fault)
+pieces_stop_first a c d f fault some most next rest whole few is stops device bound small =
+    pieces_stop a a c d d f fault 0 some most [] next rest whole (omega (arith, few)) is (adds_none a d) (omega arith) stops device bound small

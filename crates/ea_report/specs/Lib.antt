@@ -2,6 +2,7 @@ pub mod FaultNumbers
 pub mod Report
 pub mod Asked
 pub mod Sent
+pub mod Writers
 pub mod Stats
 pub mod Walks
 pub mod Delivery

@@ -1,16 +1,15 @@
 //! Reports, written to a device in large pieces.
-ghost use Rattle.std.specs.Prelude.{◌≡◌, ◌<◌, ◌≤◌, ◌+◌, ◌^◌, ◌*◌, ◌++◌, ℕ, [], All, List, None, OnOk, IfOk, IfErr, length, option_map, true};
+ghost use Rattle.std.specs.Prelude.{◌≡◌, ◌<◌, ◌≤◌, ◌+◌, ◌^◌, ◌*◌, ◌++◌, [], OnOk, IfOk, IfErr, length, true};
 ghost use Rattle.std.specs.List.{flat_map};
 ghost use Rattle.ea_report.specs.Report.{asked_line, each_node, node_count, report_text, reported_node, reported_nodes, start_line};
 ghost use Rattle.ea_report.specs.Delivery.{all_sent};
 ghost use Rattle.ea_report.specs.Deliverers.{delivery_of};
-ghost use Rattle.ea_report.specs.Sent.{Adds, Cuts, GoesOn, IsCutBy, IsWhole, Stops};
-ghost use Rattle.ea_report.specs.Asked.{AreChosen, IsOf, chosen_by};
+ghost use Rattle.ea_report.specs.Sent.{IsCutBy, IsWhole};
+ghost use Rattle.ea_report.specs.Writers.{AddsOrStops, GoesOnOrCuts, IsUnsent, MayAdd, WritesOrCuts};
+ghost use Rattle.ea_report.specs.Asked.{AreChosen, IsOf, MayReport, MayWriteNode, MayWriteNodes, chosen_by};
 ghost use Rattle.ea_report.specs.FaultNumbers.{kind_number};
 ghost use Rattle.ea_report.specs.declared.report.TheConstants.{PIECE};
 ghost use Rattle.ea_bytes.specs.Device.{HasGivenUp};
-ghost use Rattle.ea_road.specs.Queries.{IsAskedBy};
-ghost use Rattle.ea_road.specs.Roads.{IsNode};
 
 use crate::lines::{push_asked, push_node, push_start};
 use crate::pending_text::Pending;
@@ -78,12 +77,9 @@ impl Pending {
     /// Sends the pending text.
     fn flush<W: ByteOut>(&mut self, out: &mut W) -> Result<(), WriteFault>
         requires { self.old.written + 2 ^ 63 < 2 ^ 128 }
-        ensures ok { OnOk result (GoesOn (W.seen out.old) (delivery_of self.old)
-            (W.seen out.new) (delivery_of self.new)) }
-        ensures err { IfErr result (Cuts (W.seen out.old) (delivery_of self.old) (W.seen out.new)) }
+        ensures sends { GoesOnOrCuts (W.seen out.old) (delivery_of self.old)
+            (W.seen out.new) (delivery_of self.new) result }
         ensures empty { OnOk result (self.new.text.items ≡ []) }
-        ensures bound { self.new.written ≤ self.old.written + 2 ^ 63 }
-        ensures small { IfErr result (λ fault. fault.written ≤ self.old.written + 2 ^ 63) }
     {
         match send(out, &self.text, &mut self.interruptions) {
             Ok(()) => {
@@ -101,11 +97,8 @@ impl Pending {
     /// Sends the pending text if it is long, after a line was added to it.
     fn flush_large<W: ByteOut>(&mut self, out: &mut W) -> Result<(), WriteFault>
         requires { self.old.written + 2 ^ 63 < 2 ^ 128 }
-        ensures ok { OnOk result (GoesOn (W.seen out.old) (delivery_of self.old)
-            (W.seen out.new) (delivery_of self.new)) }
-        ensures err { IfErr result (Cuts (W.seen out.old) (delivery_of self.old) (W.seen out.new)) }
-        ensures bound { self.new.written ≤ self.old.written + 2 ^ 63 }
-        ensures small { IfErr result (λ fault. fault.written ≤ self.old.written + 2 ^ 63) }
+        ensures sends { GoesOnOrCuts (W.seen out.old) (delivery_of self.old)
+            (W.seen out.new) (delivery_of self.new) result }
         // Less than a piece is pending.
         ensures held { OnOk result (length self.new.text.items < PIECE) }
     {
@@ -124,14 +117,8 @@ impl Pending {
         out: &mut W,
     ) -> Result<(), WriteFault>
         requires { self.old.written + 2 ^ 63 < 2 ^ 128 }
-        ensures ok { OnOk result (Adds (W.seen out.old) (delivery_of self.old)
-            (W.seen out.new) (delivery_of self.new) (start_line direction source)) }
-        ensures err { IfErr result (λ fault. Stops (W.seen out.old) (delivery_of self.old)
-            (W.seen out.new) fault (start_line direction source)) }
-        ensures bound { self.new.written ≤ self.old.written + 2 ^ 63 }
-        ensures small { IfErr result (λ fault. fault.written ≤ self.old.written + 2 ^ 63) }
-        // Less than a piece is pending.
-        ensures held { OnOk result (length self.new.text.items < PIECE) }
+        ensures { AddsOrStops (W.seen out.old) (delivery_of self.old) (W.seen out.new)
+            (delivery_of self.new) 1 (start_line direction source) result }
     {
         match push_start(&mut self.text, source, direction) {
             Ok(()) => self.flush_large(out),
@@ -148,14 +135,8 @@ impl Pending {
         out: &mut W,
     ) -> Result<(), WriteFault>
         requires { self.old.written + 2 ^ 63 < 2 ^ 128 }
-        ensures ok { OnOk result (Adds (W.seen out.old) (delivery_of self.old)
-            (W.seen out.new) (delivery_of self.new) (asked_line direction target source)) }
-        ensures err { IfErr result (λ fault. Stops (W.seen out.old) (delivery_of self.old)
-            (W.seen out.new) fault (asked_line direction target source)) }
-        ensures bound { self.new.written ≤ self.old.written + 2 ^ 63 }
-        ensures small { IfErr result (λ fault. fault.written ≤ self.old.written + 2 ^ 63) }
-        // Less than a piece is pending.
-        ensures held { OnOk result (length self.new.text.items < PIECE) }
+        ensures { AddsOrStops (W.seen out.old) (delivery_of self.old) (W.seen out.new)
+            (delivery_of self.new) 1 (asked_line direction target source) result }
     {
         match push_asked(&mut self.text, source, target, direction) {
             Ok(()) => self.flush_large(out),
@@ -173,19 +154,10 @@ impl Pending {
         out: &mut W,
     ) -> Result<(), WriteFault>
         requires room { self.old.written + 2 ^ 63 < 2 ^ 128 }
-        requires node { IsNode answer.now.nodes node }
-        requires asked { IsAskedBy answer.now.target node }
-        requires walks { style.walks ≡ true → answer.now.walks ≡ true }
-        requires links { arcs.old.links ≡ answer.now.links }
+        requires node { MayWriteNode style.walks arcs.old.links answer.now node }
         ensures links { arcs.new.links ≡ arcs.old.links }
-        ensures ok { OnOk result (Adds (W.seen out.old) (delivery_of self.old)
-            (W.seen out.new) (delivery_of self.new) (reported_node style answer.now node)) }
-        ensures err { IfErr result (λ fault. Stops (W.seen out.old) (delivery_of self.old)
-            (W.seen out.new) fault (reported_node style answer.now node)) }
-        ensures bound { self.new.written ≤ self.old.written + 2 ^ 63 }
-        ensures small { IfErr result (λ fault. fault.written ≤ self.old.written + 2 ^ 63) }
-        // Less than a piece is pending.
-        ensures held { OnOk result (length self.new.text.items < PIECE) }
+        ensures adds { AddsOrStops (W.seen out.old) (delivery_of self.old) (W.seen out.new)
+            (delivery_of self.new) 1 (reported_node style answer.now node) result }
     {
         match push_node(&mut self.text, arcs, answer, node, style) {
             Ok(()) => self.flush_large(out),
@@ -203,17 +175,9 @@ impl Pending {
         out: &mut W,
     ) -> Result<(), WriteFault>
         requires room { self.old.written + 2 ^ 63 < 2 ^ 128 }
-        requires node { IsNode answer.now.nodes node }
-        requires asked { IsAskedBy answer.now.target node }
-        requires walks { style.walks ≡ true → answer.now.walks ≡ true }
-        ensures ok { OnOk result (Adds (W.seen out.old) (delivery_of self.old)
-            (W.seen out.new) (delivery_of self.new) (reported_node style answer.now node)) }
-        ensures err { IfErr result (λ fault. Stops (W.seen out.old) (delivery_of self.old)
-            (W.seen out.new) fault (reported_node style answer.now node)) }
-        ensures bound { self.new.written ≤ self.old.written + 2 ^ 63 }
-        ensures small { IfErr result (λ fault. fault.written ≤ self.old.written + 2 ^ 63) }
-        // Less than a piece is pending.
-        ensures held { OnOk result (length self.new.text.items < PIECE) }
+        requires node { MayWriteNode style.walks answer.now.links answer.now node }
+        ensures { AddsOrStops (W.seen out.old) (delivery_of self.old) (W.seen out.new)
+            (delivery_of self.new) 1 (reported_node style answer.now node) result }
     {
         let mut arcs = ArcTexts::new(alloc, answer.links());
         self.put_node(&mut arcs, answer, node, style, out)
@@ -226,17 +190,10 @@ impl Pending {
         direction: Direction,
         out: &mut W,
     ) -> Result<(), WriteFault>
-        requires room { self.old.written + length sources.now * 2 ^ 63 + 2 ^ 63 < 2 ^ 128 }
-        requires held { length self.old.text.items < PIECE }
-        ensures ok { OnOk result (Adds (W.seen out.old) (delivery_of self.old)
-            (W.seen out.new) (delivery_of self.new) (flat_map (start_line direction) sources.now)) }
-        ensures err { IfErr result (λ fault. Stops (W.seen out.old) (delivery_of self.old)
-            (W.seen out.new) fault (flat_map (start_line direction) sources.now)) }
-        ensures bound { self.new.written ≤ self.old.written + length sources.now * 2 ^ 63 }
-        ensures small { IfErr result
-            (λ fault. fault.written ≤ self.old.written + length sources.now * 2 ^ 63) }
-        // Less than a piece is pending.
-        ensures held { OnOk result (length self.new.text.items < PIECE) }
+        requires { MayAdd (length sources.now) (delivery_of self.old) }
+        ensures { AddsOrStops (W.seen out.old) (delivery_of self.old) (W.seen out.new)
+            (delivery_of self.new) (length sources.now)
+            (flat_map (start_line direction) sources.now) result }
     {
         for source in sources {
             self.put_start(*source, direction, out)?;
@@ -252,17 +209,10 @@ impl Pending {
         direction: Direction,
         out: &mut W,
     ) -> Result<(), WriteFault>
-        requires room { self.old.written + length sources.now * 2 ^ 63 + 2 ^ 63 < 2 ^ 128 }
-        requires held { length self.old.text.items < PIECE }
-        ensures ok { OnOk result (Adds (W.seen out.old) (delivery_of self.old)
-            (W.seen out.new) (delivery_of self.new) (flat_map (asked_line direction target) sources.now)) }
-        ensures err { IfErr result (λ fault. Stops (W.seen out.old) (delivery_of self.old)
-            (W.seen out.new) fault (flat_map (asked_line direction target) sources.now)) }
-        ensures bound { self.new.written ≤ self.old.written + length sources.now * 2 ^ 63 }
-        ensures small { IfErr result
-            (λ fault. fault.written ≤ self.old.written + length sources.now * 2 ^ 63) }
-        // Less than a piece is pending.
-        ensures held { OnOk result (length self.new.text.items < PIECE) }
+        requires { MayAdd (length sources.now) (delivery_of self.old) }
+        ensures { AddsOrStops (W.seen out.old) (delivery_of self.old) (W.seen out.new)
+            (delivery_of self.new) (length sources.now)
+            (flat_map (asked_line direction target) sources.now) result }
     {
         for source in sources {
             self.put_asked(*source, target, direction, out)?;
@@ -279,20 +229,11 @@ impl Pending {
         style: Style,
         out: &mut W,
     ) -> Result<(), WriteFault>
-        requires room { self.old.written + nodes * 2 ^ 63 + 2 ^ 63 < 2 ^ 128 }
-        requires nodes { answer.now.nodes ≡ nodes }
-        requires all { answer.now.target ≡ None }
-        requires walks { style.walks ≡ true → answer.now.walks ≡ true }
-        requires held { length self.old.text.items < PIECE }
-        ensures ok { OnOk result (Adds (W.seen out.old) (delivery_of self.old)
-            (W.seen out.new) (delivery_of self.new)
-            (each_node (reported_node style answer.now) nodes)) }
-        ensures err { IfErr result (λ fault. Stops (W.seen out.old) (delivery_of self.old)
-            (W.seen out.new) fault (each_node (reported_node style answer.now) nodes)) }
-        ensures bound { self.new.written ≤ self.old.written + nodes * 2 ^ 63 }
-        ensures small { IfErr result (λ fault. fault.written ≤ self.old.written + nodes * 2 ^ 63) }
-        // Less than a piece is pending.
-        ensures held { OnOk result (length self.new.text.items < PIECE) }
+        requires room { MayAdd nodes (delivery_of self.old) }
+        requires nodes { MayWriteNodes style None nodes answer.now }
+        ensures { AddsOrStops (W.seen out.old) (delivery_of self.old) (W.seen out.new)
+            (delivery_of self.new) nodes
+            (each_node (reported_node style answer.now) nodes) result }
     {
         let mut arcs = ArcTexts::new(alloc, answer.links());
         for i in 0..nodes {
@@ -312,21 +253,11 @@ impl Pending {
         style: Style,
         out: &mut W,
     ) -> Result<(), WriteFault>
-        requires room { self.old.written + length chosen.now * 2 ^ 63 + 2 ^ 63 < 2 ^ 128 }
-        requires nodes { All (IsNode answer.now.nodes) chosen.now }
-        requires all { answer.now.target ≡ None }
-        requires walks { style.walks ≡ true → answer.now.walks ≡ true }
-        requires held { length self.old.text.items < PIECE }
-        ensures ok { OnOk result (Adds (W.seen out.old) (delivery_of self.old)
-            (W.seen out.new) (delivery_of self.new)
-            (flat_map (reported_node style answer.now) chosen.now)) }
-        ensures err { IfErr result (λ fault. Stops (W.seen out.old) (delivery_of self.old)
-            (W.seen out.new) fault (flat_map (reported_node style answer.now) chosen.now)) }
-        ensures bound { self.new.written ≤ self.old.written + length chosen.now * 2 ^ 63 }
-        ensures small { IfErr result
-            (λ fault. fault.written ≤ self.old.written + length chosen.now * 2 ^ 63) }
-        // Less than a piece is pending.
-        ensures held { OnOk result (length self.new.text.items < PIECE) }
+        requires room { MayAdd (length chosen.now) (delivery_of self.old) }
+        requires nodes { MayWriteNodes style (Some chosen.now) answer.now.nodes answer.now }
+        ensures { AddsOrStops (W.seen out.old) (delivery_of self.old) (W.seen out.new)
+            (delivery_of self.new) (length chosen.now)
+            (flat_map (reported_node style answer.now) chosen.now) result }
     {
         let mut arcs = ArcTexts::new(alloc, answer.links());
         for node in chosen {
@@ -344,25 +275,11 @@ impl Pending {
         options: ReportOptions<'_>,
         out: &mut W,
     ) -> Result<(), WriteFault>
-        requires room { self.old.written
-            + node_count (chosen_by options) nodes * 2 ^ 63 + 2 ^ 63 < 2 ^ 128 }
-        requires nodes { answer.now.nodes ≡ nodes }
-        requires chosen { AreChosen nodes (chosen_by options) }
-        requires all { answer.now.target ≡ None }
-        requires walks { options.style.walks ≡ true → answer.now.walks ≡ true }
-        requires held { length self.old.text.items < PIECE }
-        ensures ok { OnOk result (Adds (W.seen out.old) (delivery_of self.old)
-            (W.seen out.new) (delivery_of self.new)
-            (reported_nodes options.entry.style (chosen_by options.entry) nodes answer.now)) }
-        ensures err { IfErr result (λ fault. Stops (W.seen out.old) (delivery_of self.old)
-            (W.seen out.new) fault
-            (reported_nodes options.entry.style (chosen_by options.entry) nodes answer.now)) }
-        ensures bound { self.new.written
-            ≤ self.old.written + node_count (chosen_by options.entry) nodes * 2 ^ 63 }
-        ensures small { IfErr result (λ fault. fault.written
-            ≤ self.old.written + node_count (chosen_by options.entry) nodes * 2 ^ 63) }
-        // Less than a piece is pending.
-        ensures held { OnOk result (length self.new.text.items < PIECE) }
+        requires room { MayAdd (node_count (chosen_by options) nodes) (delivery_of self.old) }
+        requires nodes { MayWriteNodes options.style (chosen_by options) nodes answer.now }
+        ensures { AddsOrStops (W.seen out.old) (delivery_of self.old) (W.seen out.new)
+            (delivery_of self.new) (node_count (chosen_by options.entry) nodes)
+            (reported_nodes options.entry.style (chosen_by options.entry) nodes answer.now) result }
     {
         match options.nodes {
             None => self.put_each(alloc, answer, nodes, options.style, out),
@@ -391,28 +308,13 @@ impl Pending {
         options: ReportOptions<'_>,
         out: &mut W,
     ) -> Result<(), WriteFault>
-        requires start { self.old.written ≡ 0 }
-        requires nodes { answer.now.nodes ≡ nodes }
-        requires chosen { AreChosen nodes (chosen_by options) }
-        requires all { answer.now.target ≡ None }
-        requires walks { options.style.walks ≡ true → answer.now.walks ≡ true }
-        requires held { length self.old.text.items < PIECE }
-        ensures ok { OnOk result (Adds (W.seen out.old) (delivery_of self.old)
-            (W.seen out.new) (delivery_of self.new)
+        requires start { IsUnsent (delivery_of self.old) }
+        requires nodes { MayWriteNodes options.style (chosen_by options) nodes answer.now }
+        ensures adds { AddsOrStops (W.seen out.old) (delivery_of self.old) (W.seen out.new)
+            (delivery_of self.new) (length sources.now + node_count (chosen_by options.entry) nodes)
             (flat_map (start_line options.entry.style.direction) sources.now
-            ++ reported_nodes options.entry.style (chosen_by options.entry) nodes answer.now)) }
-        ensures err { IfErr result (λ fault. Stops (W.seen out.old) (delivery_of self.old)
-            (W.seen out.new) fault
-            (flat_map (start_line options.entry.style.direction) sources.now
-            ++ reported_nodes options.entry.style (chosen_by options.entry) nodes answer.now)) }
-        ensures bound { self.new.written ≤ (length sources.now
-            + node_count (chosen_by options.entry) nodes) * 2 ^ 63 }
+            ++ reported_nodes options.entry.style (chosen_by options.entry) nodes answer.now) result }
         ensures room { self.new.written < 2 ^ 127 + 2 ^ 96 }
-        ensures small { IfErr result
-            (λ fault. fault.written ≤ (length sources.now
-            + node_count (chosen_by options.entry) nodes) * 2 ^ 63) }
-        // Less than a piece is pending.
-        ensures held { OnOk result (length self.new.text.items < PIECE) }
     {
         match self.put_starts(sources, options.style.direction, out) {
             Ok(()) => self.put_nodes(alloc, answer, nodes, options, out),
@@ -430,23 +332,13 @@ impl Pending {
         style: Style,
         out: &mut W,
     ) -> Result<(), WriteFault>
-        requires start { self.old.written ≡ 0 }
-        requires node { IsNode answer.now.nodes target }
-        requires asked { IsAskedBy answer.now.target target }
-        requires walks { style.walks ≡ true → answer.now.walks ≡ true }
-        requires held { length self.old.text.items < PIECE }
-        ensures ok { OnOk result (Adds (W.seen out.old) (delivery_of self.old)
-            (W.seen out.new) (delivery_of self.new)
+        requires start { IsUnsent (delivery_of self.old) }
+        requires node { MayWriteNode style.walks answer.now.links answer.now target }
+        ensures adds { AddsOrStops (W.seen out.old) (delivery_of self.old) (W.seen out.new)
+            (delivery_of self.new) (length sources.now + 1)
             (flat_map (asked_line style.direction target) sources.now
-            ++ reported_node style answer.now target)) }
-        ensures err { IfErr result (λ fault. Stops (W.seen out.old) (delivery_of self.old)
-            (W.seen out.new) fault (flat_map (asked_line style.direction target) sources.now
-            ++ reported_node style answer.now target)) }
-        ensures bound { self.new.written ≤ (length sources.now + 1) * 2 ^ 63 }
+            ++ reported_node style answer.now target) result }
         ensures room { self.new.written < 2 ^ 127 + 2 ^ 96 }
-        ensures small { IfErr result (λ fault. fault.written ≤ (length sources.now + 1) * 2 ^ 63) }
-        // Less than a piece is pending.
-        ensures held { OnOk result (length self.new.text.items < PIECE) }
     {
         match self.put_all_asked(sources, target, style.direction, out) {
             Ok(()) => self.put_alone(alloc, answer, target, style, out),
@@ -464,27 +356,14 @@ impl Pending {
         options: ReportOptions<'_>,
         out: &mut W,
     ) -> Result<(), WriteFault>
-        requires start { self.old.written ≡ 0 }
-        requires of { IsOf network.now query.now answer.now }
-        requires chosen { AreChosen network.now.nodes (chosen_by options) }
-        requires walks { options.style.walks ≡ true → answer.now.walks ≡ true }
-        requires held { length self.old.text.items < PIECE }
-        ensures ok { OnOk result (Adds (W.seen out.old) (delivery_of self.old)
-            (W.seen out.new) (delivery_of self.new)
+        requires start { IsUnsent (delivery_of self.old) }
+        requires report { MayReport network.now query.now answer.now options }
+        ensures adds { AddsOrStops (W.seen out.old) (delivery_of self.old) (W.seen out.new)
+            (delivery_of self.new)
+            (node_count (chosen_by options.entry) network.now.nodes + length query.now.sources + 1)
             (report_text options.entry.style (chosen_by options.entry) network.now.nodes
-            query.now answer.now)) }
-        ensures err { IfErr result (λ fault. Stops (W.seen out.old) (delivery_of self.old)
-            (W.seen out.new) fault (report_text options.entry.style (chosen_by options.entry) network.now.nodes
-            query.now answer.now)) }
-        ensures bound { self.new.written ≤
-            (node_count (chosen_by options.entry) network.now.nodes
-            + length query.now.sources + 1) * 2 ^ 63 }
+            query.now answer.now) result }
         ensures room { self.new.written < 2 ^ 127 + 2 ^ 96 }
-        ensures small { IfErr result
-            (λ fault. fault.written ≤ (node_count (chosen_by options.entry) network.now.nodes
-            + length query.now.sources + 1) * 2 ^ 63) }
-        // Less than a piece is pending.
-        ensures held { OnOk result (length self.new.text.items < PIECE) }
     {
         let sources = query.sources();
         match query.target() {
@@ -503,25 +382,12 @@ fn send_problem<W: ByteOut>(
     options: ReportOptions<'_>,
     out: &mut W,
 ) -> Result<u128, WriteFault>
-    requires of { IsOf network.now query.now answer.now }
-    requires chosen { AreChosen network.now.nodes (chosen_by options) }
-    requires walks { options.style.walks ≡ true → answer.now.walks ≡ true }
-    ensures ok { let before = W.seen out.old in
-        let after = W.seen out.new in
-        IfOk result (IsWhole before after
+    requires { MayReport network.now query.now answer.now options }
+    ensures { WritesOrCuts
+        ((node_count (chosen_by options.entry) network.now.nodes + length query.now.sources + 2) * 2 ^ 63)
+        (W.seen out.old) (W.seen out.new)
         (report_text options.entry.style (chosen_by options.entry) network.now.nodes
-        query.now answer.now)) }
-    ensures err { let before = W.seen out.old in
-        let after = W.seen out.new in
-        IfErr result (IsCutBy before after
-        (report_text options.entry.style (chosen_by options.entry) network.now.nodes
-        query.now answer.now)) }
-    ensures bound { IfOk result
-        (λ written. written ≤ (node_count (chosen_by options.entry) network.now.nodes
-        + length query.now.sources + 2) * 2 ^ 63) }
-    ensures small { IfErr result
-        (λ fault. fault.written ≤ (node_count (chosen_by options.entry) network.now.nodes
-        + length query.now.sources + 2) * 2 ^ 63) }
+        query.now answer.now) result }
 {
     let mut pending = Pending::new(alloc);
     pending.put_problem(alloc, network, query, answer, options, out)?;

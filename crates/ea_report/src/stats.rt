@@ -5,7 +5,8 @@ ghost use Rattle.ea_report.specs.Stats.{total_line, number_end, stats_text};
 ghost use Rattle.ea_report.specs.Report.{spaced};
 ghost use Rattle.ea_bytes.specs.Device.{HasGivenUp};
 ghost use Rattle.ea_report.specs.Deliverers.{direct_delivery};
-ghost use Rattle.ea_report.specs.Sent.{IsCutBy, IsWhole, Adds, Stops};
+ghost use Rattle.ea_report.specs.Sent.{IsCutBy, IsWhole};
+ghost use Rattle.ea_report.specs.Writers.{AddsOrGivesUp, WritesOrCuts};
 
 use crate::direct_text::Direct;
 use crate::report::{WriteFault, WriteFaultKind};
@@ -37,13 +38,8 @@ impl Direct {
     /// Sends a field after a space.
     fn put_field<W: ByteOut>(&mut self, field: &[u8], out: &mut W) -> Result<(), WriteFault>
         requires { self.old.written + 2 * 2 ^ 64 < 2 ^ 128 }
-        ensures ok { OnOk result (Adds (W.seen out.old) (direct_delivery self.old)
-            (W.seen out.new) (direct_delivery self.new) (spaced field.now)) }
-        ensures err { IfErr result (λ fault. Stops (W.seen out.old) (direct_delivery self.old)
-            (W.seen out.new) fault (spaced field.now)) }
-        ensures device { IfErr result (λ fault. fault.kind ≡ WriteFaultKind.WriteFailed) }
-        ensures bound { self.new.written ≤ self.old.written + 2 * 2 ^ 64 }
-        ensures small { IfErr result (λ fault. fault.written ≤ self.old.written + 2 * 2 ^ 64) }
+        ensures { AddsOrGivesUp (W.seen out.old) (direct_delivery self.old) (W.seen out.new)
+            (direct_delivery self.new) 2 (spaced field.now) result }
     {
         match self.put(b" ".as_slice(), out) {
             Ok(()) => self.put(field, out),
@@ -61,13 +57,8 @@ impl Direct {
         out: &mut W,
     ) -> Result<(), WriteFault>
         requires { self.old.written + 6 * 2 ^ 64 < 2 ^ 128 }
-        ensures ok { OnOk result (Adds (W.seen out.old) (direct_delivery self.old)
-            (W.seen out.new) (direct_delivery self.new) (total_line (name.now, total))) }
-        ensures err { IfErr result (λ fault. Stops (W.seen out.old) (direct_delivery self.old)
-            (W.seen out.new) fault (total_line (name.now, total))) }
-        ensures device { IfErr result (λ fault. fault.kind ≡ WriteFaultKind.WriteFailed) }
-        ensures bound { self.new.written ≤ self.old.written + 6 * 2 ^ 64 }
-        ensures small { IfErr result (λ fault. fault.written ≤ self.old.written + 6 * 2 ^ 64) }
+        ensures { AddsOrGivesUp (W.seen out.old) (direct_delivery self.old) (W.seen out.new)
+            (direct_delivery self.new) 6 (total_line (name.now, total)) result }
     {
         match self.put(b"c".as_slice(), out) {
             Ok(()) => self.put_fields(name, total, out),
@@ -83,13 +74,8 @@ impl Direct {
         out: &mut W,
     ) -> Result<(), WriteFault>
         requires { self.old.written + 5 * 2 ^ 64 < 2 ^ 128 }
-        ensures ok { OnOk result (Adds (W.seen out.old) (direct_delivery self.old)
-            (W.seen out.new) (direct_delivery self.new) (spaced name.now ++ number_end total)) }
-        ensures err { IfErr result (λ fault. Stops (W.seen out.old) (direct_delivery self.old)
-            (W.seen out.new) fault (spaced name.now ++ number_end total)) }
-        ensures device { IfErr result (λ fault. fault.kind ≡ WriteFaultKind.WriteFailed) }
-        ensures bound { self.new.written ≤ self.old.written + 5 * 2 ^ 64 }
-        ensures small { IfErr result (λ fault. fault.written ≤ self.old.written + 5 * 2 ^ 64) }
+        ensures { AddsOrGivesUp (W.seen out.old) (direct_delivery self.old) (W.seen out.new)
+            (direct_delivery self.new) 5 (spaced name.now ++ number_end total) result }
     {
         match self.put_field(name, out) {
             Ok(()) => self.put_number(total, out),
@@ -100,13 +86,8 @@ impl Direct {
     /// Sends a number after a space, and the end of its line.
     fn put_number<W: ByteOut>(&mut self, number: u128, out: &mut W) -> Result<(), WriteFault>
         requires { self.old.written + 3 * 2 ^ 64 < 2 ^ 128 }
-        ensures ok { OnOk result (Adds (W.seen out.old) (direct_delivery self.old)
-            (W.seen out.new) (direct_delivery self.new) (number_end number)) }
-        ensures err { IfErr result (λ fault. Stops (W.seen out.old) (direct_delivery self.old)
-            (W.seen out.new) fault (number_end number)) }
-        ensures device { IfErr result (λ fault. fault.kind ≡ WriteFaultKind.WriteFailed) }
-        ensures bound { self.new.written ≤ self.old.written + 3 * 2 ^ 64 }
-        ensures small { IfErr result (λ fault. fault.written ≤ self.old.written + 3 * 2 ^ 64) }
+        ensures { AddsOrGivesUp (W.seen out.old) (direct_delivery self.old) (W.seen out.new)
+            (direct_delivery self.new) 3 (number_end number) result }
     {
         let mut buffer = Buffer::new();
         match self.put_field(buffer.format(number).as_bytes(), out) {
@@ -123,14 +104,9 @@ impl Direct {
     /// Sends the lines of totals.
     fn put_totals<W: ByteOut>(&mut self, rows: &[Row<'_>], out: &mut W) -> Result<(), WriteFault>
         requires { self.old.written + length rows.now * (6 * 2 ^ 64) + 6 * 2 ^ 64 < 2 ^ 128 }
-        ensures ok { OnOk result (Adds (W.seen out.old) (direct_delivery self.old)
-            (W.seen out.new) (direct_delivery self.new)
-            (flat_map (λ row. total_line (row.0.now, row.1)) rows.now)) }
-        ensures err { IfErr result (λ fault. Stops (W.seen out.old) (direct_delivery self.old)
-            (W.seen out.new) fault (flat_map (λ row. total_line (row.0.now, row.1)) rows.now)) }
-        ensures device { IfErr result (λ fault. fault.kind ≡ WriteFaultKind.WriteFailed) }
-        ensures small { IfErr result
-            (λ fault. fault.written ≤ self.old.written + length rows.now * (6 * 2 ^ 64)) }
+        ensures { AddsOrGivesUp (W.seen out.old) (direct_delivery self.old) (W.seen out.new)
+            (direct_delivery self.new) (length rows.now * 6)
+            (flat_map (λ row. total_line (row.0.now, row.1)) rows.now) result }
     {
         for row in rows {
             self.put_total(row.0, row.1, out)?;
@@ -141,14 +117,9 @@ impl Direct {
 
 /// Sends the eight totals, and returns the number of bytes sent.
 fn send_stats<W: ByteOut>(totals: &Totals, out: &mut W) -> Result<u128, WriteFault>
-    ensures ok { let before = W.seen out.old in
-        let after = W.seen out.new in
-        IfOk result (IsWhole before after (stats_text totals.now)) }
-    ensures err { let before = W.seen out.old in
-        let after = W.seen out.new in
-        IfErr result (IsCutBy before after (stats_text totals.now)) }
+    ensures writes { WritesOrCuts (48 * 2 ^ 64) (W.seen out.old) (W.seen out.new)
+        (stats_text totals.now) result }
     ensures kind { IfErr result (λ fault. fault.kind ≡ WriteFaultKind.WriteFailed) }
-    ensures small { IfErr result (λ fault. fault.written ≤ 48 * 2 ^ 64) }
 {
     let rows = [
         (b"seeded".as_slice(), totals.seeded),

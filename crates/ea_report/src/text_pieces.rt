@@ -3,6 +3,7 @@ ghost use Rattle.std.specs.Prelude.{◌≡◌, ◌<◌, ◌≤◌, ◌+◌, ◌*
 ghost use Rattle.std.specs.List.{flat_map};
 ghost use Rattle.ea_report.specs.Deliverers.{direct_delivery};
 ghost use Rattle.ea_report.specs.Sent.{IsCutBy, IsWhole, Adds, Stops};
+ghost use Rattle.ea_report.specs.Writers.{AddsOrGivesUp};
 
 use crate::direct_text::Direct;
 use crate::report::{WriteFault, WriteFaultKind};
@@ -13,13 +14,8 @@ impl Direct {
     /// Sends bytes.
     pub(crate) fn put<W: ByteOut>(&mut self, bytes: &[u8], out: &mut W) -> Result<(), WriteFault>
         requires { self.old.written + 2 ^ 64 < 2 ^ 128 }
-        ensures ok { OnOk result (Adds (W.seen out.old) (direct_delivery self.old)
-            (W.seen out.new) (direct_delivery self.new) bytes.now) }
-        ensures err { IfErr result (λ fault. Stops (W.seen out.old) (direct_delivery self.old)
-            (W.seen out.new) fault bytes.now) }
-        ensures device { IfErr result (λ fault. fault.kind ≡ WriteFaultKind.WriteFailed) }
-        ensures bound { self.new.written ≤ self.old.written + 2 ^ 64 }
-        ensures small { IfErr result (λ fault. fault.written ≤ self.old.written + 2 ^ 64) }
+        ensures { AddsOrGivesUp (W.seen out.old) (direct_delivery self.old) (W.seen out.new)
+            (direct_delivery self.new) 1 bytes.now result }
     {
         match send(out, bytes, &mut self.interruptions) {
             Ok(()) => {

@@ -1,5 +1,4 @@
-use Rattle.std.proofs.Common.{◌≡◌, ◌≢◌, ◌∙◌, ℕ, List, ◌++◌, ◌<◌, ◌≤◌, length, reverse, sym, ap, subst, arith, true}
-use Rattle.std.specs.Prelude.{OnOk}
+use Rattle.std.proofs.Common.{◌≡◌, ◌∙◌, List, ◌++◌, ◌<◌, length, reverse, sym, ap, subst, arith}
 use Rattle.ea_road.specs.Labels.{label_of}
 use Rattle.ea_search.specs.declared.link.Link.{Link}
 use Rattle.ea_search.specs.declared.link.TheConstants.{NO_LEVEL}

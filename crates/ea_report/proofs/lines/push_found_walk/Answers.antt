@@ -1,9 +1,5 @@
-use Rattle.std.proofs.Common.{◌≡◌, ◌≢◌, ◌∙◌, ℕ, List, ◌-◌, ◌++◌, ◌<◌, ◌≤◌, true, length, get_or, refl, sym, ap, subst, arith, eq-eqb}
-use Rattle.std.proofs.lemmas.Bool.{false≢true}
-use Rattle.std.specs.Prelude.{Option, Result, Ok, Err, OnOk}
-use Rattle.std.specs.Option.{is_some}
-use Rattle.ea_road.specs.declared.TheConstants.{NONE}
-use Rattle.ea_road.specs.Labels.{label_of, time_of}
+use Rattle.std.proofs.Common.{◌∙◌, List, ◌-◌, ◌++◌, ◌<◌, ◌≤◌, length, get_or, sym, ap, subst, arith}
+use Rattle.ea_road.specs.Labels.{label_of}
 use Rattle.ea_search.specs.declared.link.Link.{Link}
 use Rattle.ea_search.specs.declared.link.TheConstants.{NO_LEVEL}
 use Rattle.ea_search.specs.Links.{link, linked_walk}

@@ -1,12 +1,11 @@
-use Rattle.std.proofs.Common.{◌≡◌, ◌-◌, ◌++◌, ◌∷◌, [], ℕ, List, length, get_or, reverse, refl, sym, ◌∙◌, ap, arith, append_assoc}
-use Rattle.std.specs.Prelude.{codes, decimal}
+use Rattle.std.proofs.Common.{◌≡◌, ◌-◌, ◌++◌, length, get_or, reverse, sym, ◌∙◌, ap}
+use Rattle.std.specs.Prelude.{decimal}
 use Rattle.std.proofs.lemmas.List.{length-reverse}
 use Rattle.ea_search.specs.declared.link.Link.{Link}
-use Rattle.ea_search.specs.Links.{link, linked_walk}
+use Rattle.ea_search.specs.Links.{linked_walk}
 use Rattle.ea_paths.proofs.Followed.{linked_length}
 use Rattle.ea_paths.proofs.Linkings.{link_read}
-use Rattle.ea_report.specs.Report.{spaced, walk_line}
-use Rattle.ea_report.specs.Walks.{arcs_text}
+use Rattle.ea_report.specs.Report.{spaced}
 use Rattle.ea_report.proofs.Following.{walk_line_of}
 use Rattle.ea_report.proofs.lines.push_walk_back.Goals as goal
 

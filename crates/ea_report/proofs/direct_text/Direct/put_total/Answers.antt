@@ -1,21 +1,18 @@
-use Rattle.std.proofs.Common.{ap, sym, [], ◌++◌, ◌∙◌, append-nil}
+use Rattle.std.proofs.Common.{ap, arith, sym, ◌++◌, ◌∙◌}
 use Rattle.ea_report.specs.Report.{spaced}
 use Rattle.ea_report.specs.Stats.{number_end}
-use Rattle.ea_report.proofs.Pieces.{adds_join, stops_join, stops_more, adds_none}
+use Rattle.ea_report.proofs.Pieces.{pieces_then, pieces_stop_first}
 use Rattle.ea_report.proofs.TotalLines.{total_is}
 use Rattle.ea_report.proofs.direct_text.Direct.put_total.Goals as goal
 
-pub returns-in-Ok-clause-ok : goal.returns-in-Ok-clause-ok
-returns-in-Ok-clause-ok g c =
-    let e = (total_is c.args.name.now c.args.total ∙ ap (λ x. x ++ (spaced c.args.name.now ++ number_end c.args.total)) (sym c.as_slice.ensures)) in
-    adds_join c.put_fields.result _ _ _ _ _ _ (c.as_slice.result.now) (spaced c.args.name.now ++ number_end c.args.total) _ e c.in-Ok.ensures.ok c.put_fields.ensures.ok
+pub returns-in-Ok : goal.returns-in-Ok
+returns-in-Ok g c =
+    let fields = spaced c.args.name.now ++ number_end c.args.total in
+    let e = total_is c.args.name.now c.args.total ∙ ap (λ x. x ++ fields) (sym c.as_slice.ensures) in
+    pieces_then c.put_fields.result _ _ _ _ _ _ 1 5 6 c.as_slice.result.now fields _ (omega arith) e c.in-Ok.ensures.ok c.in-Ok.ensures.bound c.put_fields.ensures
 
-pub returns-in-Ok-clause-err : goal.returns-in-Ok-clause-err
-returns-in-Ok-clause-err g c =
-    let e = (total_is c.args.name.now c.args.total ∙ ap (λ x. x ++ (spaced c.args.name.now ++ number_end c.args.total)) (sym c.as_slice.ensures)) in
-    stops_join c.put_fields.result _ _ _ _ _ (c.as_slice.result.now) (spaced c.args.name.now ++ number_end c.args.total) [] _ (e ∙ sym (append-nil ((c.as_slice.result.now) ++ (spaced c.args.name.now ++ number_end c.args.total)))) c.in-Ok.ensures.ok c.put_fields.ensures.err
-
-pub returns-in-Err-clause-err : goal.returns-in-Err-clause-err
-returns-in-Err-clause-err g c =
-    let e = (total_is c.args.name.now c.args.total ∙ ap (λ x. x ++ (spaced c.args.name.now ++ number_end c.args.total)) (sym c.as_slice.ensures)) in
-    stops_more _ _ _ _ _ _ [] (c.as_slice.result.now) (spaced c.args.name.now ++ number_end c.args.total) _ e (adds_none _ _) c.in-Err.ensures.err
+pub returns-in-Err : goal.returns-in-Err
+returns-in-Err g c =
+    let fields = spaced c.args.name.now ++ number_end c.args.total in
+    let e = total_is c.args.name.now c.args.total ∙ ap (λ x. x ++ fields) (sym c.as_slice.ensures) in
+    pieces_stop_first _ _ _ _ c.in-Err.fault 1 6 c.as_slice.result.now fields _ (omega arith) e c.in-Err.ensures.err c.in-Err.ensures.device c.in-Err.ensures.bound c.in-Err.ensures.small

@@ -1,4 +1,4 @@
-use Rattle.std.proofs.Common.{◌≤◌, ◌+◌, ◌*◌, ◌^◌, take, []}
+use Rattle.std.proofs.Common.{◌≤◌, ◌+◌, ◌*◌, ◌^◌, take}
 use Rattle.std.specs.List.{flat_map}
 use Rattle.ea_report.specs.Deliverers.{direct_delivery}
 use Rattle.ea_report.specs.Stats.{total_line}

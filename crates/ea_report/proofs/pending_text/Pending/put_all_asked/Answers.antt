@@ -2,14 +2,12 @@ use Rattle.std.proofs.Common.{arith, take, drop, suc}
 use Rattle.std.proofs.lemmas.Result.{err_from_is_err_and}
 use Rattle.std.specs.List.{flat_map}
 use Rattle.ea_report.specs.Report.{asked_line}
-use Rattle.ea_report.proofs.Pieces.{stops_more, flat_map-at}
+use Rattle.ea_report.proofs.Pieces.{lines_stop, flat_map-at}
 use Rattle.ea_report.proofs.pending_text.Pending.put_all_asked.Goals as goal
 
-pub returns-in_err-put_asked-clause-err : goal.returns-in_err-put_asked-clause-err
-returns-in_err-put_asked-clause-err g c =
+pub returns-in_err-put_asked : goal.returns-in_err-put_asked
+returns-in_err-put_asked g c =
     let p = err_from_is_err_and c.from_residual.result c.from_residual.ensures.1 in
     let i = c.loop-source.source-index in
     let sources = c.args.sources.now in
-    let e = c.in_err-put_asked.ensures.err in
-    let k = c.put_asked in
-    rw (p.1, p.2) (stops_more _ _ _ _ _ _ (flat_map (asked_line c.args.direction c.args.target) (take i sources)) _ (flat_map (asked_line c.args.direction c.args.target) (drop (suc i) sources)) _ (flat_map-at (asked_line c.args.direction c.args.target) sources i _ (omega arith)) c.loop-source.invariant.added c.in_err-put_asked.ensures.err)
+    rw (p.1, p.2) (lines_stop _ _ _ _ _ _ _ i 1 _ (flat_map (asked_line c.args.direction c.args.target) (take i sources)) _ (flat_map (asked_line c.args.direction c.args.target) (drop (suc i) sources)) _ (omega arith) (flat_map-at (asked_line c.args.direction c.args.target) sources i _ (omega arith)) c.loop-source.invariant.added c.loop-source.invariant.bound c.in_err-put_asked.ensures.err c.in_err-put_asked.ensures.bound c.in_err-put_asked.ensures.small)

@@ -2,16 +2,16 @@ use Rattle.std.proofs.Common.{arith, ◌≡◌, ◌+◌, ◌++◌, ◌∙◌, �
 use Rattle.std.proofs.lemmas.Result.{err_from_is_err_and}
 use Rattle.std.specs.List.{flat_map}
 use Rattle.ea_report.specs.Report.{reported_node}
-use Rattle.ea_report.proofs.Pieces.{adds_none, stops_more, adds_more, flat_map-at, flat_map-next}
+use Rattle.ea_report.proofs.Pieces.{adds_none, lines_stop, adds_more, flat_map-at, flat_map-next}
 use Rattle.ea_report.proofs.pending_text.Pending.put_chosen.Goals as goal
 
-pub returns-in_err-put_node-clause-err : goal.returns-in_err-put_node-clause-err
-returns-in_err-put_node-clause-err g c =
+pub returns-in_err-put_node : goal.returns-in_err-put_node
+returns-in_err-put_node g c =
     let p = err_from_is_err_and c.from_residual.result c.from_residual.ensures.1 in
     let i = c.loop-node.node-index in
     let chosen = c.args.chosen.now in
     let text = reported_node c.args.style c.args.answer.now in
-    rw (p.1, p.2) (stops_more _ _ _ _ _ _ (flat_map text (take i chosen)) _ (flat_map text (drop (suc i) chosen)) _ (flat_map-at text chosen i 0 (omega arith)) c.loop-node.invariant.added c.in_err-put_node.ensures.err)
+    rw (p.1, p.2) (lines_stop _ _ _ _ _ _ _ i 1 _ (flat_map text (take i chosen)) _ (flat_map text (drop (suc i) chosen)) _ (omega arith) (flat_map-at text chosen i 0 (omega arith)) c.loop-node.invariant.added c.loop-node.invariant.bound c.in_err-put_node.ensures.adds.err c.in_err-put_node.ensures.adds.bound c.in_err-put_node.ensures.adds.small)
 
 pub loop-node-preserved : goal.loop-node-preserved
 loop-node-preserved g c =
@@ -22,9 +22,9 @@ loop-node-preserved g c =
     let one : i + 1 ≡ suc i = omega arith in
     let next : flat_map text (take (i + 1) chosen) ≡ before ++ text (get_or chosen i 0) = ap (λ (n : ℕ). flat_map text (take n chosen)) one ∙ flat_map-next text chosen i 0 (omega arith) in record {
       links = c.in_ok-put_node.ensures.links ∙ c.loop-node.invariant.links;
-      added = rw next (adds_more _ _ _ _ _ _ before _ c.loop-node.invariant.added c.in_ok-put_node.ensures.ok);
-      bound = omega (arith, c.in_ok-put_node.ensures.bound);
-      held = c.in_ok-put_node.ensures.held;
+      added = rw next (adds_more _ _ _ _ _ _ before _ c.loop-node.invariant.added c.in_ok-put_node.ensures.adds.ok);
+      bound = omega (arith, c.in_ok-put_node.ensures.adds.bound);
+      held = c.in_ok-put_node.ensures.adds.held;
     }
 
 pub loop-node-init : goal.loop-node-init
@@ -32,5 +32,5 @@ loop-node-init g c = record {
   links = c.new-arcs.ensures.links ∙ c.links.ensures.links;
   added = adds_none _ _;
   bound = omega (arith);
-  held = c.requires.held;
+  held = c.requires.room.held;
 }

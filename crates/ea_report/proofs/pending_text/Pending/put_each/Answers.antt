@@ -3,33 +3,35 @@ use Rattle.std.proofs.lemmas.Result.{err_from_is_err_and}
 use Rattle.ea_report.specs.Deliverers.{delivery_of}
 use Rattle.ea_report.specs.Report.{each_node, reported_node}
 use Rattle.ea_report.specs.Sent.{Adds}
-use Rattle.ea_report.proofs.Pieces.{stops_more, adds_none, adds_more, each_node-at, each_node-next}
+use Rattle.ea_report.proofs.Pieces.{lines_stop, adds_none, adds_more, each_node-at, each_node-next}
 use Rattle.ea_report.proofs.pending_text.Pending.put_each.Goals as goal
 
-pub returns-in_err-put_node-clause-err : goal.returns-in_err-put_node-clause-err
-returns-in_err-put_node-clause-err g c =
+pub returns-in_err-put_node : goal.returns-in_err-put_node
+returns-in_err-put_node g c =
     let p = err_from_is_err_and c.from_residual.result c.from_residual.ensures.1 in
     let text = reported_node c.args.style c.args.answer.now in
     let here = each_node-at text c.args.nodes c.loop-i.i (omega arith) in
-    rw (p.1, p.2) (stops_more _ _ _ _ _ _ (each_node text c.loop-i.i) (text (c.loop-i.i + 1)) here.0 _ here.1 c.loop-i.invariant.added c.in_err-put_node.ensures.err)
+    rw (p.1, p.2) (lines_stop _ _ _ _ _ _ _ c.loop-i.i 1 _ (each_node text c.loop-i.i) (text (c.loop-i.i + 1)) here.0 _ (omega arith) here.1 c.loop-i.invariant.added c.loop-i.invariant.bound c.in_err-put_node.ensures.adds.err c.in_err-put_node.ensures.adds.bound c.in_err-put_node.ensures.adds.small)
 
 pub loop-i-preserved : goal.loop-i-preserved
 loop-i-preserved g c =
     let text = reported_node c.args.style c.args.answer.now in
-    record { links = c.in_ok-put_node.ensures.links ∙ c.loop-i.invariant.links; added = rw (each_node-next text c.loop-i.i) (adds_more _ _ _ _ _ _ (each_node text c.loop-i.i) (text (c.loop-i.i + 1)) c.loop-i.invariant.added c.in_ok-put_node.ensures.ok); bound = omega (arith, c.in_ok-put_node.ensures.bound); held = c.in_ok-put_node.ensures.held }
+    record { links = c.in_ok-put_node.ensures.links ∙ c.loop-i.invariant.links; added = rw (each_node-next text c.loop-i.i) (adds_more _ _ _ _ _ _ (each_node text c.loop-i.i) (text (c.loop-i.i + 1)) c.loop-i.invariant.added c.in_ok-put_node.ensures.adds.ok); bound = omega (arith, c.in_ok-put_node.ensures.adds.bound); held = c.in_ok-put_node.ensures.adds.held }
 
 pub loop-i-init : goal.loop-i-init
 loop-i-init g c = record {
   links = c.new-arcs.ensures.links ∙ c.links.ensures.links;
   added = adds_none _ _;
   bound = omega (arith);
-  held = c.requires.held;
+  held = c.requires.room.held;
 }
 
-pub returns-clause-ok : goal.returns-clause-ok
-returns-clause-ok g c =
-    let all : c.loop-i.i ≡ c.args.nodes = omega (arith, c.loop-i-test.false) in
-    subst (λ (n : ℕ). Adds (g.W.Device.seen c.args.out.now) (delivery_of c.args.self.now) (g.W.Device.seen c.loop-i.out) (delivery_of c.loop-i.self) (each_node (reported_node c.args.style c.args.answer.now) n)) all c.loop-i.invariant.added
-
-pub returns-clause-bound : goal.returns-clause-bound
-returns-clause-bound g c = omega (arith, c.loop-i.invariant.bound, c.loop-i-test.false)
+pub returns : goal.returns
+returns g c =
+    let all : c.loop-i.i ≡ c.args.nodes = omega (arith, c.loop-i-test.false) in record {
+      ok = subst (λ (n : ℕ). Adds (g.W.Device.seen c.args.out.now) (delivery_of c.args.self.now) (g.W.Device.seen c.loop-i.out) (delivery_of c.loop-i.self) (each_node (reported_node c.args.style c.args.answer.now) n)) all c.loop-i.invariant.added;
+      err = tt;
+      bound = omega (arith, c.loop-i.invariant.bound, c.loop-i-test.false);
+      small = tt;
+      held = c.loop-i.invariant.held;
+    }

@@ -3,20 +3,18 @@ use Rattle.std.proofs.lemmas.Result.{err_from_is_err_and}
 use Rattle.std.specs.List.{flat_map}
 use Rattle.ea_road.specs.declared.source.Source.{Source}
 use Rattle.ea_report.specs.Report.{start_line}
-use Rattle.ea_report.proofs.Pieces.{stops_more, adds_more, flat_map-at, flat_map-next}
+use Rattle.ea_report.proofs.Pieces.{lines_stop, adds_more, flat_map-at, flat_map-next}
 use Rattle.ea_report.proofs.pending_text.Pending.put_starts.Goals as goal
 
 abbrev none : Source
 none = record { node = 0; departure = 0 }
 
-pub returns-in_err-put_start-clause-err : goal.returns-in_err-put_start-clause-err
-returns-in_err-put_start-clause-err g c =
+pub returns-in_err-put_start : goal.returns-in_err-put_start
+returns-in_err-put_start g c =
     let p = err_from_is_err_and c.from_residual.result c.from_residual.ensures.1 in
     let i = c.loop-source.source-index in
     let sources = c.args.sources.now in
-    let e = c.in_err-put_start.ensures.err in
-    let k = c.put_start in
-    rw (p.1, p.2) (stops_more _ _ _ _ _ _ (flat_map (start_line c.args.direction) (take i sources)) _ (flat_map (start_line c.args.direction) (drop (suc i) sources)) _ (flat_map-at (start_line c.args.direction) sources i _ (omega arith)) c.loop-source.invariant.added c.in_err-put_start.ensures.err)
+    rw (p.1, p.2) (lines_stop _ _ _ _ _ _ _ i 1 _ (flat_map (start_line c.args.direction) (take i sources)) _ (flat_map (start_line c.args.direction) (drop (suc i) sources)) _ (omega arith) (flat_map-at (start_line c.args.direction) sources i _ (omega arith)) c.loop-source.invariant.added c.loop-source.invariant.bound c.in_err-put_start.ensures.err c.in_err-put_start.ensures.bound c.in_err-put_start.ensures.small)
 
 pub loop-source-preserved : goal.loop-source-preserved
 loop-source-preserved g c =
