@@ -8,13 +8,14 @@ use Rattle.ea_road.specs.Roads.{IsNode}
 use Rattle.ea_search.specs.declared.link.Link.{Link}
 use Rattle.ea_search.specs.declared.link.TheConstants.{NO_LEVEL}
 use Rattle.ea_search.specs.Links.{link, linked_walk, walk_along}
-use Rattle.ea_paths.specs.Stored.{AreFollowable}
+use Rattle.ea_paths.specs.Stored.{AreFollowable, IsStoredAnswer}
 use Rattle.ea_paths.proofs.Followed.{along-zero, along-back, linked-walk}
 use Rattle.ea_search.specs.Answers.{Answered, walk_of}
 use Rattle.ea_road.specs.declared.TheConstants.{NONE}
 use Rattle.ea_road.specs.Labels.{label_of, time_of}
+use Rattle.ea_report.specs.Asked.{MayWriteNode}
 use Rattle.ea_report.specs.Report.{driven_text, spaced, walk_line, walk_text}
-use Rattle.ea_report.specs.Walks.{arcs_text, AreFronts, IsPath}
+use Rattle.ea_report.specs.Walks.{arcs_text, AreFronts, AreWritten, FollowLinks, HasWalk, IsStep, IsWalkText, KeepsFronts, front_end}
 
 -- one arc more
 pub arcs_text-push : (arcs : List ℕ) (arc : ℕ) → arcs_text (arcs ++ arc ∷ []) ≡ arcs_text arcs ++ spaced (decimal arc)
@@ -162,60 +163,77 @@ fronts_cut links nodes nodes' ends text text' kept fronts low inside stay cut = 
     same_node : (place : ℕ) → place < kept → slice_index nodes' place ≡ slice_index nodes place
     same_node place few = sym (get_or-take kept nodes' place 0 few) ∙ ap (λ (xs : List ℕ). get_or xs place 0) stay ∙ get_or-take kept nodes place 0 few
 
--- the node before a place is one level below
-pub step_before : (links : List Link) (nodes : List ℕ) (start place : ℕ) → AreFollowable links → length nodes ≤ NO_LEVEL → IsPath links nodes start → start ≤ place → place < length nodes → 0 < place
-    → ((link links (slice_index nodes place)).from ≡ slice_index nodes (place - 1)) × ((link links (slice_index nodes (place - 1))).level ≡ place - 1)
-step_before links nodes start place follows few path from there some =
-    let here = path place from there in
-    let before = here.2 some in
-    let step = follows (slice_index nodes place) (omega (arith, here.1, some)) (omega (arith, here.1, there, few)) in
-    (before, sym (ap (λ n. (link links n).level) before) ∙ omega (arith, step.1, here.1))
+-- each place has a step
+pub step_at : (links : List Link) (nodes : List ℕ) (start place : ℕ) → FollowLinks links nodes start → start ≤ place → place < length nodes → IsStep links nodes place
+step_at links nodes start place follow from there =
+    let here = follow.path place from there in record {
+      there = there;
+      is_node = here.0;
+      level = here.1;
+      before = λ some. (
+          let before = here.2 some in
+          let step = follow.followable (slice_index nodes place) (omega (arith, here.1, some)) (omega (arith, here.1, there, follow.few)) in
+          (before, sym (ap (λ n. (link links n).level) before) ∙ omega (arith, step.1, here.1)));
+    }
 
 -- the walk to a place extends the text of the walk to the place before
-pub text_more : (links : List Link) (nodes text text' : List ℕ) (place : ℕ)
-    → (0 < place → ((link links (slice_index nodes place)).from ≡ slice_index nodes (place - 1)) × ((link links (slice_index nodes (place - 1))).level ≡ place - 1))
-    → (link links (slice_index nodes place)).level ≡ place
-    → (0 < place → text ≡ arcs_text (linked_walk links (slice_index nodes (place - 1)))) → (place ≤ 0 → text ≡ [])
+pub text_more : (links : List Link) (nodes text text' : List ℕ) (place : ℕ) → IsStep links nodes place → IsWalkText links nodes place text
     → text' ≡ arcs_text (linked_walk links (slice_index nodes place)) → (more : List ℕ) × (text' ≡ text ++ more)
-text_more links nodes text text' zero before level whole none walk = (text', ap (λ t. t ++ text') (sym (none (omega arith))))
-text_more links nodes text text' (suc last) before level whole none walk =
-    let step = before (omega arith) in (
+text_more links nodes text text' zero step before walk = (text', ap (λ t. t ++ text') (sym (before.none (omega arith))))
+text_more links nodes text text' (suc last) step before walk =
+    let below = step.before (omega arith) in (
       spaced (decimal (link links (slice_index nodes (suc last))).arc),
-      walk ∙ arc_more links (slice_index nodes (suc last)) (slice_index nodes (suc last - 1)) step.0 (omega (arith, step.1, level)) ∙ ap (λ t. t ++ spaced (decimal (link links (slice_index nodes (suc last))).arc)) (sym (whole (omega arith))),
+      walk ∙ arc_more links (slice_index nodes (suc last)) (slice_index nodes (suc last - 1)) below.0 (omega (arith, below.1, step.level)) ∙ ap (λ t. t ++ spaced (decimal (link links (slice_index nodes (suc last))).arc)) (sym (before.whole (omega arith))),
     )
+
+end_at : (ends : List ℕ) (place : ℕ) → 0 < place → front_end ends place ≡ slice_index ends (place - 1)
+end_at ends zero some = absurd (omega (arith, some))
+end_at ends (suc place) some = ap (λ n. slice_index ends n) (omega arith)
 
 -- what is kept, over the nodes that were put in their places
 module _ (links : List Link) (nodes places nodes' ends ends₁ ends' text text' : List ℕ) (kept : ℕ)
-    (fronts : AreFronts links nodes ends text) (same : take (length ends₁) places ≡ take (length ends₁) nodes) (fewer : ends₁ ≡ take (length ends₁) ends) (less : length ends₁ ≤ length ends)
+    (fronts : AreFronts links nodes ends text) (keeps : KeepsFronts nodes ends places ends₁)
     (known : kept ≤ length ends₁) (within : kept ≤ length nodes') (stay : take kept nodes' ≡ take kept places) (cut : ends' ≡ take kept ends₁)
-    (some : 0 < kept → text' ≡ take (slice_index ends₁ (kept - 1)) text) where
+    (texts : text' ≡ take (front_end ends₁ kept) text) where
+  some : 0 < kept → text' ≡ take (slice_index ends₁ (kept - 1)) text
+  some more = texts ∙ ap (λ n. take n text) (end_at ends₁ kept more)
+
   shorter : ends' ≡ take kept ends
-  shorter = cut ∙ ap (λ (xs : List ℕ). take kept xs) fewer ∙ take-take kept (length ends₁) ends known
+  shorter = cut ∙ ap (λ (xs : List ℕ). take kept xs) keeps.ends_are ∙ take-take kept (length ends₁) ends known
 
   size : length ends' ≡ kept
-  size = ap (λ (xs : List ℕ). length xs) shorter ∙ length-take-le kept ends (omega (arith, known, less))
+  size = ap (λ (xs : List ℕ). length xs) shorter ∙ length-take-le kept ends (omega (arith, known, keeps.less))
 
   end : 0 < kept → slice_index ends₁ (kept - 1) ≡ slice_index ends (kept - 1)
-  end more = ap (λ (xs : List ℕ). get_or xs (kept - 1) 0) fewer ∙ get_or-take (length ends₁) ends (kept - 1) 0 (omega (arith, more, known))
+  end more = ap (λ (xs : List ℕ). get_or xs (kept - 1) 0) keeps.ends_are ∙ get_or-take (length ends₁) ends (kept - 1) 0 (omega (arith, more, known))
 
   front : 0 < kept → text' ≡ take (slice_index ends (kept - 1)) text
   front more = some more ∙ ap (λ n. take n text) (end more)
 
   kept_nodes : take kept nodes' ≡ take kept nodes
-  kept_nodes = stay ∙ sym (take-take kept (length ends₁) places known) ∙ ap (λ (xs : List ℕ). take kept xs) same ∙ take-take kept (length ends₁) nodes known
+  kept_nodes = stay ∙ sym (take-take kept (length ends₁) places known) ∙ ap (λ (xs : List ℕ). take kept xs) keeps.same ∙ take-take kept (length ends₁) nodes known
 
-  pub fronts_kept : AreFronts links nodes' ends' text'
+  fronts_kept : AreFronts links nodes' ends' text'
   fronts_kept =
       let P : List ℕ → Type 0 = λ xs. AreFronts links nodes' xs text' in
-      subst P (sym shorter) (fronts_cut links nodes nodes' ends text text' kept fronts (omega (arith, known, less)) within kept_nodes front)
+      subst P (sym shorter) (fronts_cut links nodes nodes' ends text text' kept fronts (omega (arith, known, keeps.less)) within kept_nodes front)
 
-  pub text_kept : 0 < length ends' → text' ≡ arcs_text (linked_walk links (slice_index nodes' (length ends' - 1)))
-  text_kept more =
+  whole : 0 < length ends' → text' ≡ arcs_text (linked_walk links (slice_index nodes' (length ends' - 1)))
+  whole more =
       let last : 0 < kept = omega (arith, more, size) in
-      let whole : slice_index ends' (length ends' - 1) ≡ length text' =
+      let long : slice_index ends' (length ends' - 1) ≡ length text' =
       ap (λ n. get_or ends' (n - 1) 0) size ∙ ap (λ (xs : List ℕ). get_or xs (kept - 1) 0) shorter ∙ get_or-take kept ends (kept - 1) 0 (omega (arith, last))
-      ∙ sym (ap (λ (t : List ℕ). length t) (front last) ∙ length-take-le (slice_index ends (kept - 1)) text (fronts.within (kept - 1) (omega (arith, last, known, less)))) in
-      sym (take_all (slice_index ends' (length ends' - 1)) text' (omega (arith, whole))) ∙ fronts_kept.texts (length ends' - 1) (omega (arith, more))
+      ∙ sym (ap (λ (t : List ℕ). length t) (front last) ∙ length-take-le (slice_index ends (kept - 1)) text (fronts.within (kept - 1) (omega (arith, last, known, keeps.less)))) in
+      sym (take_all (slice_index ends' (length ends' - 1)) text' (omega (arith, long))) ∙ fronts_kept.texts (length ends' - 1) (omega (arith, more))
+
+  pub written_kept : AreWritten links nodes' ends' text'
+  written_kept = record {
+    fronts = fronts_kept;
+    text_is = record {
+      whole = whole;
+      none = λ few. (let empty : kept ≡ 0 = omega (arith, few, size) in texts ∙ ap (λ n. take (front_end ends₁ n) text) empty);
+    };
+  }
 
 -- an asked node with an arrival has the walk along its links
 pub walk_text_of : (answer : Answered) (node : ℕ) → label_of answer.labels node ≢ NONE → walk_text node (walk_of answer node) ≡ walk_line node (linked_walk answer.links node)
@@ -241,6 +259,17 @@ no_driven_text answer node none = rw (eq-eqb (label_of answer.labels node) NONE 
 -- a node with an arrival has a label
 pub labelled : (found : Option ℕ) (label : ℕ) → is_some found ≡ true → found ≡ time_of label → label ≢ NONE
 labelled found label some same = λ none. false≢true (sym (rw (eq-eqb label NONE none) refl) ∙ ap (λ (o : Option ℕ). is_some o) (sym same) ∙ some)
+
+-- an asked node with an arrival has a walk along the answer's links
+pub has_walk : (links : List Link) (answer : Answered) (node : ℕ) → IsStoredAnswer answer → MayWriteNode true links answer node → label_of answer.labels node ≢ NONE → HasWalk links node
+has_walk links answer node stored may some =
+    let walks : answer.walks ≡ true = may.has_walks refl in
+    let P : List Link → Type 0 = λ xs. HasWalk xs node in
+    subst P (sym may.links_are) (record {
+      is_node = record { from_one = may.is_node.from_one; to_last = omega (arith, stored.links walks, may.is_node.to_last) };
+      followable = stored.followable walks;
+      level = stored.linked walks node may.is_node may.asked some;
+    })
 
 pub ok_then : {T E P Q : Type 0} (r : Result T E) → OnOk r P → (P → Q) → OnOk r Q
 ok_then (Ok x) p f = f p

@@ -9,7 +9,7 @@ use Rattle.std.specs.Io.KnownBytes.{Appends}
 use Rattle.std.proofs.KnownBytes.{Appends-trans, Appends-nil}
 use Rattle.ea_bytes.specs.Device.{Seen, one_more, GivesUp, HasGivenUp}
 use Rattle.ea_report.specs.Delivery.{Delivery, all_sent, with_more}
-use Rattle.ea_report.specs.Sent.{AreCounted, HasBorne, IsNotLess, IsCutAt, IsCutBy, IsReason, Delivers, IsWhole, Adds, Cuts, GoesOn, Stops}
+use Rattle.ea_report.specs.Sent.{AreCounted, HasBorne, IsNotLess, IsCutBy, IsReason, Delivers, IsWhole, Adds, Cuts, GoesOn, SendsAll, SendsFront, Stops}
 use Rattle.ea_report.specs.Writers.{AddsOrGivesUp, AddsOrStops, GoesOnOrCuts}
 use Rattle.ea_report.specs.declared.report.TheConstants.{PIECE}
 use Rattle.ea_report.specs.declared.report.WriteFault.{WriteFault}
@@ -48,25 +48,23 @@ interrupted_gives_up first old now unfailed more h =
     inr (unfailed ∙ h.0, omega (arith, counted.0), elim counted.1 [ inl more ↦ inl (omega (arith, more)) | inr end ↦ inr end ])
 
 -- All that was pending is sent.
-pub delivery_sent : (first old now : Seen) (d : Delivery) (after : ℕ) (text : List ℕ) → Appends old.bytes now.bytes d.pending
-    → ((start : Seen) → HasBorne start old d.interruptions → HasBorne start now after)
+pub delivery_sent : (first old now : Seen) (d : Delivery) (after : ℕ) (text : List ℕ) → SendsAll old now d.pending d.interruptions after
     → Delivers first old d text → Delivers first now (all_sent (d.written + length d.pending) after) text
-delivery_sent first old now d after text sent more way = record {
+delivery_sent first old now d after text sends way = record {
   sent = way.sent ++ d.pending;
-  appended = Appends-trans first.bytes old.bytes now.bytes way.sent d.pending way.appended sent;
+  appended = Appends-trans first.bytes old.bytes now.bytes way.sent d.pending way.appended sends.sent;
   whole = way.whole ∙ sym (append-nil (way.sent ++ d.pending));
   counted = rw (way.counted, length-append way.sent d.pending) refl;
-  borne = more first way.borne;
+  borne = sends.counted first way.borne;
 }
 
 -- Only a front of what was pending is sent.
-pub delivery_cut : (first old now : Seen) (d : Delivery) (text : List ℕ) (sent : ℕ) → IsCutAt old.bytes now.bytes d.pending sent
-    → ((start : Seen) → HasBorne start old d.interruptions → GivesUp start now)
+pub delivery_cut : (first old now : Seen) (d : Delivery) (text : List ℕ) (sent : ℕ) → SendsFront old now d.pending d.interruptions sent
     → Delivers first old d text → IsCutBy first now text (record { written = d.written + sent; kind = WriteFailed })
-delivery_cut first old now d text sent cut reason way =
+delivery_cut first old now d text sent sends way =
     let front : take (d.written + sent) text ≡ way.sent ++ take sent d.pending = rw (way.counted, way.whole) (take-append-add way.sent d.pending sent) in (
-      (rw (way.counted, way.whole, length-append way.sent d.pending) (omega (arith, cut.0)), subst (λ t. Appends first.bytes now.bytes t) (sym front) (Appends-trans first.bytes old.bytes now.bytes way.sent (take sent d.pending) way.appended cut.1)),
-      reason first way.borne,
+      (rw (way.counted, way.whole, length-append way.sent d.pending) (omega (arith, sends.cut.0)), subst (λ t. Appends first.bytes now.bytes t) (sym front) (Appends-trans first.bytes old.bytes now.bytes way.sent (take sent d.pending) way.appended sends.cut.1)),
+      sends.given_up first way.borne,
     )
 
 -- More is pending.
@@ -158,20 +156,18 @@ delivery_ends first now d text e few way =
     (way.counted ∙ ap length (sym same), subst (λ t. Appends first.bytes now.bytes t) (sym same) way.appended, (way.borne.0, omega (arith, few, way.borne.1.0)), not_less first.interrupted now.interrupted d.interruptions way.borne.1)
 
 -- Bytes that were sent at once.
-pub adds_sent : (old now : Seen) (bytes : List ℕ) (written count before after : ℕ) → count ≡ length bytes → Appends old.bytes now.bytes bytes
-    → ((start : Seen) → HasBorne start old before → HasBorne start now after)
+pub adds_sent : (old now : Seen) (bytes : List ℕ) (written count before after : ℕ) → count ≡ length bytes → SendsAll old now bytes before after
     → Adds old (all_sent written before) now (all_sent (written + count) after) bytes
-adds_sent old now bytes written count before after size sent more = λ first text way.
+adds_sent old now bytes written count before after size sends = λ first text way.
     let pending = with_more (all_sent written before) bytes in
     subst (λ n. Delivers first now (all_sent (written + n) after) (text ++ bytes)) (sym size)
-    (delivery_sent first old now pending after (text ++ bytes) sent more (delivery_more first old (all_sent written before) text bytes way))
+    (delivery_sent first old now pending after (text ++ bytes) sends (delivery_more first old (all_sent written before) text bytes way))
 
-pub stops_sent : (old now : Seen) (bytes : List ℕ) (written borne sent : ℕ) → IsCutAt old.bytes now.bytes bytes sent
-    → ((start : Seen) → HasBorne start old borne → GivesUp start now)
+pub stops_sent : (old now : Seen) (bytes : List ℕ) (written borne sent : ℕ) → SendsFront old now bytes borne sent
     → Stops old (all_sent written borne) now (record { written = written + sent; kind = WriteFailed }) bytes
-stops_sent old now bytes written borne sent cut reason = λ first text way.
+stops_sent old now bytes written borne sent sends = λ first text way.
     let pending = with_more (all_sent written borne) bytes in
-    delivery_cut first old now pending (text ++ bytes) sent cut reason (delivery_more first old (all_sent written borne) text bytes way)
+    delivery_cut first old now pending (text ++ bytes) sent sends (delivery_more first old (all_sent written borne) text bytes way)
 
 -- A device that is the cause shows it.
 shown : (old new : Seen) → GivesUp old new → HasGivenUp old new

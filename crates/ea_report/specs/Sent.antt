@@ -19,6 +19,17 @@ AreCounted old new count = (new ≤ old + count) × ((old + count ≤ new) ⊎ (
 abbrev pub HasBorne : Seen → Seen → ℕ → Type 0
 HasBorne first now count = (now.failed ≡ first.failed) × AreCounted first.interrupted now.interrupted count
 
+-- All of these bytes were sent, and the count of interruptions continues from any earlier count.
+pub record SendsAll (old now : Seen) (bytes : List ℕ) (before after : ℕ) : Type 0 where
+  pub sent : Appends old.bytes now.bytes bytes
+  pub counted : (first : Seen) → HasBorne first old before → HasBorne first now after
+
+-- This many of these bytes were sent, the first ones, and the device gave up after any earlier count of
+-- interruptions.
+pub record SendsFront (old now : Seen) (bytes : List ℕ) (before sent : ℕ) : Type 0 where
+  pub cut : IsCutAt old.bytes now.bytes bytes sent
+  pub given_up : (first : Seen) → HasBorne first old before → GivesUp first now
+
 -- A text is delivered: its first bytes were sent, this many, and the rest is pending. No call failed, and
 -- this many were interrupted.
 pub record Delivers (first now : Seen) (delivery : Delivery) (text : List ℕ) : Type 0 where

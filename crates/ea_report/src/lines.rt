@@ -2,13 +2,10 @@
 ghost use Rattle.std.specs.Prelude.{◌≡◌, ◌≤◌, ◌<◌, ◌+◌, ◌++◌, ℕ, List, OnOk, Some, decimal, drop, length, reverse, true};
 ghost use Rattle.ea_report.specs.Report.{spaced, source_line, arrival_line, walk_line, pair_line, walk_text};
 ghost use Rattle.ea_report.specs.Report.{asked_line, departure_line, driven_text, reported_node, start_line, target_line, time_line, turned_pair_line, way_text};
-ghost use Rattle.ea_road.specs.Queries.{IsAskedBy};
-ghost use Rattle.ea_road.specs.Roads.{IsNode};
 ghost use Rattle.ea_search.specs.Answers.{walk_of};
-ghost use Rattle.ea_search.specs.Links.{link, linked_walk};
-ghost use Rattle.ea_search.specs.declared.link.TheConstants.{NO_LEVEL};
-ghost use Rattle.ea_paths.specs.Stored.{AreFollowable};
-ghost use Rattle.ea_report.specs.Walks.{arcs_text};
+ghost use Rattle.ea_search.specs.Links.{linked_walk};
+ghost use Rattle.ea_report.specs.Asked.{MayWriteNode};
+ghost use Rattle.ea_report.specs.Walks.{HasWalk, arcs_text};
 
 use crate::style::Style;
 use crate::walk_texts::ArcTexts;
@@ -192,10 +189,7 @@ fn push_found_walk(
     answer: &Answer,
     node: u32,
 ) -> Result<(), AllocError>
-    requires node { IsNode answer.now.nodes node }
-    requires asked { IsAskedBy answer.now.target node }
-    requires walks { answer.now.walks ≡ true }
-    requires links { arcs.old.links ≡ answer.now.links }
+    requires { MayWriteNode true arcs.old.links answer.now node }
     ensures text { OnOk result
         (text.new.items ≡ text.old.items ++ walk_text node (walk_of answer.now node)) }
     ensures links { arcs.new.links ≡ arcs.old.links }
@@ -210,9 +204,7 @@ fn push_found_walk(
 
 /// Appends the arcs of the walk along the links of a node, from the node on: the last arc first.
 fn push_arcs_back(text: &mut Vec<u8>, links: &[Link], node: u32) -> Result<(), AllocError>
-    requires node { IsNode (length links.now) node }
-    requires followable { AreFollowable links.now }
-    requires level { (link links.now node).level < NO_LEVEL }
+    requires { HasWalk links.now node }
     ensures { OnOk result (text.new.items
         ≡ text.old.items ++ arcs_text (reverse (linked_walk links.now node))) }
 {
@@ -227,9 +219,7 @@ fn push_arcs_back(text: &mut Vec<u8>, links: &[Link], node: u32) -> Result<(), A
 
 /// Appends the line of the walk along the links of a node, from the node on.
 fn push_walk_back(text: &mut Vec<u8>, links: &[Link], node: u32) -> Result<(), AllocError>
-    requires node { IsNode (length links.now) node }
-    requires followable { AreFollowable links.now }
-    requires level { (link links.now node).level < NO_LEVEL }
+    requires { HasWalk links.now node }
     ensures { OnOk result (text.new.items
         ≡ text.old.items ++ walk_line node (reverse (linked_walk links.now node))) }
 {
@@ -243,9 +233,7 @@ fn push_walk_back(text: &mut Vec<u8>, links: &[Link], node: u32) -> Result<(), A
 
 /// Appends the line of an asked node's walk to a target, if it has one.
 fn push_driven(text: &mut Vec<u8>, answer: &Answer, node: u32) -> Result<(), AllocError>
-    requires node { IsNode answer.now.nodes node }
-    requires asked { IsAskedBy answer.now.target node }
-    requires walks { answer.now.walks ≡ true }
+    requires { MayWriteNode true answer.now.links answer.now node }
     ensures { OnOk result
         (text.new.items ≡ text.old.items ++ driven_text node (walk_of answer.now node)) }
 {
@@ -263,10 +251,7 @@ fn push_way(
     node: u32,
     direction: Direction,
 ) -> Result<(), AllocError>
-    requires node { IsNode answer.now.nodes node }
-    requires asked { IsAskedBy answer.now.target node }
-    requires walks { answer.now.walks ≡ true }
-    requires links { arcs.old.links ≡ answer.now.links }
+    requires { MayWriteNode true arcs.old.links answer.now node }
     ensures text { OnOk result
         (text.new.items ≡ text.old.items ++ way_text direction node (walk_of answer.now node)) }
     ensures links { arcs.new.links ≡ arcs.old.links }
@@ -285,10 +270,7 @@ pub fn push_node(
     node: u32,
     style: Style,
 ) -> Result<(), AllocError>
-    requires node { IsNode answer.now.nodes node }
-    requires asked { IsAskedBy answer.now.target node }
-    requires walks { style.walks ≡ true → answer.now.walks ≡ true }
-    requires links { arcs.old.links ≡ answer.now.links }
+    requires { MayWriteNode style.walks arcs.old.links answer.now node }
     ensures text { OnOk result
         (text.new.items ≡ text.old.items ++ reported_node style answer.now node) }
     ensures links { arcs.new.links ≡ arcs.old.links }

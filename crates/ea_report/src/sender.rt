@@ -1,8 +1,6 @@
 //! Sending bytes to a device.
-ghost use Rattle.std.specs.Prelude.{◌≡◌, ◌<◌, ◌≤◌, ◌+◌, ℕ, OnOk, OnErr, IfErr, length};
-ghost use Rattle.std.specs.Io.KnownBytes.{Appends};
-ghost use Rattle.ea_bytes.specs.Device.{Seen, GivesUp};
-ghost use Rattle.ea_report.specs.Sent.{IsCutAt, HasBorne};
+ghost use Rattle.std.specs.Prelude.{◌≤◌, OnOk, IfErr};
+ghost use Rattle.ea_report.specs.Sent.{SendsAll, SendsFront};
 
 use ea_base::MOST_INTERRUPTIONS;
 use ea_bytes::{ByteOut, DeviceFault};
@@ -14,16 +12,11 @@ pub(crate) fn send<W: ByteOut>(
     interruptions: &mut u64,
 ) -> Result<(), usize>
     requires { interruptions.old ≤ MOST_INTERRUPTIONS }
-    ensures ok { OnOk result (Appends (W.seen out.old).bytes (W.seen out.new).bytes bytes.now) }
-    ensures err { IfErr result (λ sent. IsCutAt (W.seen out.old).bytes (W.seen out.new).bytes
-        bytes.now sent) }
+    ensures ok { OnOk result (SendsAll (W.seen out.old) (W.seen out.new) bytes.now
+        interruptions.old interruptions.new) }
+    ensures err { IfErr result (SendsFront (W.seen out.old) (W.seen out.new) bytes.now
+        interruptions.old) }
     ensures borne { interruptions.new ≤ MOST_INTERRUPTIONS }
-    // The count of interruptions continues from any earlier count, and an error has a reason.
-    ensures counted { OnOk result ((first : Seen) →
-        HasBorne first (W.seen out.old) interruptions.old
-        → HasBorne first (W.seen out.new) interruptions.new) }
-    ensures given_up { OnErr result ((first : Seen) →
-        HasBorne first (W.seen out.old) interruptions.old → GivesUp first (W.seen out.new)) }
 {
     let mut sent = 0;
     while sent < bytes.len() {

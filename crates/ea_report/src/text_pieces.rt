@@ -2,7 +2,7 @@
 ghost use Rattle.std.specs.Prelude.{◌≡◌, ◌<◌, ◌≤◌, ◌+◌, ◌*◌, ◌^◌, [], IfOk, IfErr, OnOk, length};
 ghost use Rattle.std.specs.List.{flat_map};
 ghost use Rattle.ea_report.specs.Deliverers.{direct_delivery};
-ghost use Rattle.ea_report.specs.Sent.{IsCutBy, IsWhole, Adds, Stops};
+ghost use Rattle.ea_report.specs.Sent.{IsCutBy, IsWhole};
 ghost use Rattle.ea_report.specs.Writers.{AddsOrGivesUp};
 
 use crate::direct_text::Direct;
@@ -41,14 +41,9 @@ impl Direct {
         out: &mut W,
     ) -> Result<(), WriteFault>
         requires { self.old.written + length pieces.now * 2 ^ 64 + 2 ^ 64 < 2 ^ 128 }
-        ensures ok { OnOk result (Adds (W.seen out.old) (direct_delivery self.old)
-            (W.seen out.new) (direct_delivery self.new)
-            (flat_map (λ piece. piece.now) pieces.now)) }
-        ensures err { IfErr result (λ fault. Stops (W.seen out.old) (direct_delivery self.old)
-            (W.seen out.new) fault (flat_map (λ piece. piece.now) pieces.now)) }
-        ensures device { IfErr result (λ fault. fault.kind ≡ WriteFaultKind.WriteFailed) }
-        ensures bound { OnOk result
-            (self.new.written ≤ self.old.written + length pieces.now * 2 ^ 64) }
+        ensures { AddsOrGivesUp (W.seen out.old) (direct_delivery self.old) (W.seen out.new)
+            (direct_delivery self.new) (length pieces.now)
+            (flat_map (λ piece. piece.now) pieces.now) result }
     {
         for piece in pieces {
             self.put(piece, out)?;

@@ -1,10 +1,7 @@
 //! The arcs of walks as text. What a walk shares with the one before is not written again.
 ghost use Rattle.std.specs.Prelude.{◌≡◌, ◌<◌, ◌≤◌, ◌+◌, ◌-◌, [], IsTrue, OnOk, length, slice_index, take};
-ghost use Rattle.ea_road.specs.Roads.{IsNode};
-ghost use Rattle.ea_search.specs.declared.link.TheConstants.{NO_LEVEL};
 ghost use Rattle.ea_search.specs.Links.{link, linked_walk};
-ghost use Rattle.ea_paths.specs.Stored.{AreFollowable};
-ghost use Rattle.ea_report.specs.Walks.{AreFronts, IsPath, arcs_text, text_to, HasLevel, LeadsOn};
+ghost use Rattle.ea_report.specs.Walks.{AreFronts, AreWritten, FillsBack, FollowLinks, HasWalk, IsStep, IsWalkText, KeepsFronts, arcs_text, front_end, text_to};
 
 use crate::lines::push_number;
 use ea_search::Link;
@@ -23,16 +20,10 @@ fn stands_at(nodes: &[u32], known: usize, place: usize, node: u32) -> bool
 /// Puts the nodes of a node's walk in their places, from the last back to the first that is already there.
 /// Returns the number of places that stay.
 fn go_back(links: &[Link], nodes: &mut Vec<u32>, known: usize, node: u32) -> usize
-    requires node { IsNode (length links.now) node }
-    requires followable { AreFollowable links.now }
-    requires level { (link links.now node).level < NO_LEVEL }
+    requires walk { HasWalk links.now node }
     requires places { length nodes.old.items ≡ (link links.now node).level + 1 }
     ensures known { result ≤ known }
-    ensures within { result ≤ length nodes.old.items }
-    ensures places { length nodes.new.items ≡ length nodes.old.items }
-    ensures stay { take result nodes.new.items ≡ take result nodes.old.items }
-    ensures path { IsPath links.now nodes.new.items result }
-    ensures last { slice_index nodes.new.items (link links.now node).level ≡ node }
+    ensures fills { FillsBack links.now node result nodes.old.items nodes.new.items }
 {
     let mut left = nodes.len();
     let mut at = node;
@@ -54,13 +45,8 @@ fn push_arc_at(
     place: usize,
     text: &mut Vec<u8>,
 ) -> Result<(), AllocError>
-    requires place { place < length nodes.now }
-    requires node { IsNode (length links.now) (slice_index nodes.now place) }
-    requires level { HasLevel links.now nodes.now place }
-    requires before { 0 < place → LeadsOn links.now nodes.now place
-        × HasLevel links.now nodes.now (place - 1) }
-    requires text { 0 < place → text.old.items ≡ text_to links.now nodes.now (place - 1) }
-    requires start { place ≤ 0 → text.old.items ≡ [] }
+    requires step { IsStep links.now nodes.now place }
+    requires text { IsWalkText links.now nodes.now place text.old.items }
     ensures { OnOk result (text.new.items ≡ text_to links.now nodes.now place) }
 {
     if place == 0 {
@@ -76,14 +62,8 @@ fn write_on(
     ends: &mut Vec<usize>,
     text: &mut Vec<u8>,
 ) -> Result<(), AllocError>
-    requires followable { AreFollowable links.now }
-    requires few { length nodes.now ≤ NO_LEVEL }
-    requires path { IsPath links.now nodes.now (length ends.old.items) }
-    requires fronts { AreFronts links.now nodes.now ends.old.items text.old.items }
-    requires some { 0 < length nodes.now }
-    requires whole { 0 < length ends.old.items → text.old.items
-        ≡ text_to links.now nodes.now (length ends.old.items - 1) }
-    requires none { length ends.old.items ≤ 0 → text.old.items ≡ [] }
+    requires path { FollowLinks links.now nodes.now (length ends.old.items) }
+    requires written { AreWritten links.now nodes.now ends.old.items text.old.items }
     ensures fronts { OnOk result (AreFronts links.now nodes.now ends.new.items text.new.items) }
     ensures whole { OnOk result
         (text.new.items ≡ text_to links.now nodes.now (length nodes.now - 1)) }
@@ -99,9 +79,7 @@ fn write_on(
 fn cut_to(ends: &mut Vec<usize>, text: &mut Vec<u8>, kept: usize)
     requires { kept ≤ length ends.old.items }
     ensures ends { ends.new.items ≡ take kept ends.old.items }
-    ensures some { 0 < kept → text.new.items
-        ≡ take (slice_index ends.old.items (kept - 1)) text.old.items }
-    ensures none { kept ≤ 0 → text.new.items ≡ [] }
+    ensures text { text.new.items ≡ take (front_end ends.old.items kept) text.old.items }
 {
     if kept == 0 {
         text.clear();
@@ -115,11 +93,7 @@ fn cut_to(ends: &mut Vec<usize>, text: &mut Vec<u8>, kept: usize)
 fn make_places(nodes: &mut Vec<u32>, ends: &mut Vec<usize>, places: usize) -> Result<(), AllocError>
     requires { length ends.old.items ≤ length nodes.old.items }
     ensures places { OnOk result (length nodes.new.items ≡ places) }
-    ensures same { take (length ends.new.items) nodes.new.items
-        ≡ take (length ends.new.items) nodes.old.items }
-    ensures few { length ends.new.items ≤ length nodes.new.items }
-    ensures less { length ends.new.items ≤ length ends.old.items }
-    ensures ends { ends.new.items ≡ take (length ends.new.items) ends.old.items }
+    ensures keeps { KeepsFronts nodes.old.items ends.old.items nodes.new.items ends.new.items }
 {
     ends.truncate(places);
     nodes.resize(places, 0)
@@ -133,9 +107,7 @@ fn go_on(
     text: &mut Vec<u8>,
     node: u32,
 ) -> Result<(), AllocError>
-    requires node { IsNode (length links.now) node }
-    requires followable { AreFollowable links.now }
-    requires level { (link links.now node).level < NO_LEVEL }
+    requires walk { HasWalk links.now node }
     requires fronts { AreFronts links.now nodes.old.items ends.old.items text.old.items }
     ensures fronts { OnOk result
         (AreFronts links.now nodes.new.items ends.new.items text.new.items) }
@@ -189,9 +161,7 @@ impl<'a> ArcTexts<'a> {
     /// Moves to the walk along the links of a node. If memory is refused, there is no current walk, and the
     /// next call writes its walk whole.
     pub fn go_to(&mut self, node: u32) -> Result<(), AllocError>
-        requires node { IsNode (length self.old.links) node }
-        requires followable { AreFollowable self.old.links }
-        requires level { (link self.old.links node).level < NO_LEVEL }
+        requires { HasWalk self.old.links node }
         ensures links { self.new.links ≡ self.old.links }
         ensures text { OnOk result (self.new.text ≡ arcs_text (linked_walk self.old.links node)) }
     {

@@ -10,8 +10,8 @@ use Rattle.ea_report.proofs.lines.push_arcs_back.Goals as goal
 
 pub back-init : goal.back-init
 back-init c = record {
-  above = c.requires.node.from_one;
-  within = c.requires.node.to_last;
+  above = c.requires.is_node.from_one;
+  within = c.requires.is_node.to_last;
   linked = c.requires.level;
   written = refl;
 }

@@ -14,7 +14,7 @@ returns c =
     let links = c.args.links.now in
     let node = c.args.node in
     let walk = reverse (linked_walk links node) in
-    let level = ap (λ (l : Link). l.level) (link_read links node c.requires.node.from_one c.requires.node.to_last) in
+    let level = ap (λ (l : Link). l.level) (link_read links node c.requires.is_node.from_one c.requires.is_node.to_last) in
     let count : (get_or links (node - 1) (record { level = 0; arc = 0; from = 0 })).level ≡ length walk = level ∙ sym (length-reverse (linked_walk links node) ∙ linked_length links node) in
     let known = c.in_ok-push_number.ensures ∙ ap (λ n. c.push.new.self.items ++ spaced (decimal n)) c.from.ensures in
     let counted = c.in_ok-push_number-2.ensures ∙ ap (λ n. c.push_number.new.text.items ++ spaced (decimal n)) c.from-2.ensures in

@@ -30,17 +30,25 @@ loop-sent-preserved g c =
           borne_more first old now _ said.failed said.interrupted (c.loop-sent.invariant.counted first h);
     }
 
-pub returns-then-interruptions-eq-MOST_INTERRUPTIONS-clause-given_up : goal.returns-then-interruptions-eq-MOST_INTERRUPTIONS-clause-given_up
-returns-then-interruptions-eq-MOST_INTERRUPTIONS-clause-given_up g c = λ first h.
+pub returns-then-interruptions-eq-MOST_INTERRUPTIONS-clause-err : goal.returns-then-interruptions-eq-MOST_INTERRUPTIONS-clause-err
+returns-then-interruptions-eq-MOST_INTERRUPTIONS-clause-err g c =
     let said = rw c.in-Err-Interrupted.field-0-is at c.in-Err-Interrupted.ensures in
-    let counted = rw c.if-interruptions-eq-MOST_INTERRUPTIONS.true at (c.loop-sent.invariant.counted first h) in
-    let old = g.W.Device.seen c.loop-sent.out in
-    let now = g.W.Device.seen c.write.new.self in
-    interrupted_gives_up first old now said.failed said.interrupted counted
+    record {
+      cut = (c.loop-sent.invariant.within, Appends-kept _ _ _ _ c.loop-sent.invariant.sent said.bytes);
+      given_up = λ first h.
+          let counted = rw c.if-interruptions-eq-MOST_INTERRUPTIONS.true at (c.loop-sent.invariant.counted first h) in
+          let old = g.W.Device.seen c.loop-sent.out in
+          let now = g.W.Device.seen c.write.new.self in
+          interrupted_gives_up first old now said.failed said.interrupted counted;
+    }
 
-pub returns-in-Err-Failed-clause-given_up : goal.returns-in-Err-Failed-clause-given_up
-returns-in-Err-Failed-clause-given_up g c = λ first h.
+pub returns-in-Err-Failed-clause-err : goal.returns-in-Err-Failed-clause-err
+returns-in-Err-Failed-clause-err g c =
     let said = rw c.in-Err-Failed.field-0-is at c.in-Err-Failed.ensures in
-    let old = g.W.Device.seen c.loop-sent.out in
-    let now = g.W.Device.seen c.write.new.self in
-    failed_gives_up first old now _ said.failed said.interrupted c.loop-sent.invariant.borne (c.loop-sent.invariant.counted first h)
+    record {
+      cut = (c.loop-sent.invariant.within, Appends-kept _ _ _ _ c.loop-sent.invariant.sent said.bytes);
+      given_up = λ first h.
+          let old = g.W.Device.seen c.loop-sent.out in
+          let now = g.W.Device.seen c.write.new.self in
+          failed_gives_up first old now _ said.failed said.interrupted c.loop-sent.invariant.borne (c.loop-sent.invariant.counted first h);
+    }
