@@ -1,5 +1,5 @@
 -- Texts on their way to a device.
-use Rattle.std.proofs.Common.{◌≡◌, ℕ, zero, suc, ◌+◌, ◌-◌, ◌*◌, ◌^◌, ◌<◌, ◌≤◌, List, [], ◌∷◌, ◌++◌, length, take, drop, refl, ap, ap₂, sym, ◌∙◌, inl, inr, arith, subst, length-drop, length-append, append-nil, append_assoc, get_or, map}
+use Rattle.std.proofs.Common.{◌≡◌, ℕ, zero, suc, ◌+◌, ◌-◌, ◌*◌, ◌^◌, ◌<◌, ◌≤◌, min, List, [], ◌∷◌, ◌++◌, length, take, drop, refl, ap, ap₂, sym, ◌∙◌, inl, inr, arith, subst, length-drop, length-append, append-nil, append_assoc, get_or, map}
 use Rattle.std.proofs.Math.Seq.{take-add, take-length, take-append-add}
 use Rattle.std.proofs.lemmas.List.{take-append-le}
 use Rattle.ea_report.specs.Report.{each_node}
@@ -7,13 +7,13 @@ use Rattle.std.specs.Prelude.{Option, Result, Ok, Err, IfErr, OnOk}
 use Rattle.std.specs.List.{flat_map}
 use Rattle.std.specs.Io.KnownBytes.{Appends}
 use Rattle.std.proofs.KnownBytes.{Appends-trans, Appends-nil}
-use Rattle.ea_bytes.specs.Device.{Seen, one_more, GivesUp, HasGivenUp}
+use Rattle.ea_bytes.specs.Device.{Seen, one_more, BearsOn, GivesUp, HasGivenUp}
 use Rattle.ea_report.specs.Delivery.{Delivery, all_sent, with_more}
-use Rattle.ea_report.specs.Sent.{AreCounted, HasBorne, IsNotLess, IsCutBy, IsReason, Delivers, IsWhole, Adds, Cuts, GoesOn, SendsAll, SendsFront, Stops}
+use Rattle.ea_report.specs.Sent.{AreCounted, HasBorne, IsExact, IsNotLess, IsCutAt, IsCutBy, IsReason, Delivers, IsWhole, Adds, Cuts, GoesOn, SendsAll, SendsFront, Stops}
 use Rattle.ea_report.specs.Writers.{AddsOrGivesUp, AddsOrStops, GoesOnOrCuts}
 use Rattle.ea_report.specs.declared.report.TheConstants.{PIECE}
 use Rattle.ea_report.specs.declared.report.WriteFault.{WriteFault}
-use Rattle.ea_report.specs.declared.report.WriteFaultKind.TheVariants.{WriteFailed}
+use Rattle.ea_report.specs.declared.report.WriteFaultKind.TheVariants.{WriteFailed, OutOfMemory}
 use native.Mathlib.Decide.{dec_le}
 
 pub rest_whole : (bytes : List ℕ) (s : ℕ) → take (length bytes - s) (drop s bytes) ≡ drop s bytes
@@ -47,23 +47,28 @@ interrupted_gives_up first old now unfailed more h =
     let counted = counted_more first.interrupted old.interrupted now.interrupted 1000 more h.1 in
     inr (unfailed ∙ h.0, omega (arith, counted.0), elim counted.1 [ inl more ↦ inl (omega (arith, more)) | inr end ↦ inr end ])
 
+-- A count that has reached its end stays there.
+again : (a b end : ℕ) → min (min a end + b) end ≡ min (a + b) end
+again a b end = omega arith
+
 -- All that was pending is sent.
 pub delivery_sent : (first old now : Seen) (d : Delivery) (after : ℕ) (text : List ℕ) → SendsAll old now d.pending d.interruptions after
-    → Delivers first old d text → Delivers first now (all_sent (d.written + length d.pending) after) text
+    → Delivers first old d text → Delivers first now (all_sent (min (d.written + length d.pending) (2 ^ 128 - 1)) after) text
 delivery_sent first old now d after text sends way = record {
   sent = way.sent ++ d.pending;
   appended = Appends-trans first.bytes old.bytes now.bytes way.sent d.pending way.appended sends.sent;
   whole = way.whole ∙ sym (append-nil (way.sent ++ d.pending));
-  counted = rw (way.counted, length-append way.sent d.pending) refl;
+  counted = rw (way.counted, length-append way.sent d.pending) (again (length way.sent) (length d.pending) (2 ^ 128 - 1));
   borne = sends.counted first way.borne;
 }
 
 -- Only a front of what was pending is sent.
-pub delivery_cut : (first old now : Seen) (d : Delivery) (text : List ℕ) (sent : ℕ) → SendsFront old now d.pending d.interruptions sent
-    → Delivers first old d text → IsCutBy first now text (record { written = d.written + sent; kind = WriteFailed })
-delivery_cut first old now d text sent sends way =
-    let front : take (d.written + sent) text ≡ way.sent ++ take sent d.pending = rw (way.counted, way.whole) (take-append-add way.sent d.pending sent) in (
-      (rw (way.counted, way.whole, length-append way.sent d.pending) (omega (arith, sends.cut.0)), subst (λ t. Appends first.bytes now.bytes t) (sym front) (Appends-trans first.bytes old.bytes now.bytes way.sent (take sent d.pending) way.appended sends.cut.1)),
+pub delivery_cut : (first old now : Seen) (d : Delivery) (text : List ℕ) (sent written : ℕ) → SendsFront old now d.pending d.interruptions sent → written ≡ min (d.written + sent) (2 ^ 128 - 1) → IsExact written
+    → Delivers first old d text → IsCutBy first now text (record { written = written; kind = WriteFailed })
+delivery_cut first old now d text sent written sends count exact way =
+    let size : written ≡ length way.sent + sent = omega (arith, count, exact, way.counted) in
+    let front : take written text ≡ way.sent ++ take sent d.pending = rw (size, way.whole) (take-append-add way.sent d.pending sent) in (
+      (rw (size, way.whole, length-append way.sent d.pending) (omega (arith, sends.cut.0)), subst (λ t. Appends first.bytes now.bytes t) (sym front) (Appends-trans first.bytes old.bytes now.bytes way.sent (take sent d.pending) way.appended sends.cut.1)),
       sends.given_up first way.borne,
     )
 
@@ -102,11 +107,11 @@ each_node-next text i =
 
 -- A text that stops while more of it is pending stops as the longer text.
 pub stops_after : {T : Type 0} (r : Result T WriteFault) (old new : Seen) (d : Delivery) (pending more : List ℕ) → pending ≡ d.pending ++ more
-    → IfErr r (Cuts old (record d { pending = pending }) new)
-    → IfErr r (λ fault. Stops old d new fault more)
+    → IfErr r (λ fault. IsExact fault.written → Cuts old (record d { pending = pending }) new fault)
+    → IfErr r (λ fault. IsExact fault.written → Stops old d new fault more)
 stops_after (Ok x) old new d pending more e h = tt
-stops_after (Err fault) old new d pending more e h = λ first text way.
-    h first (text ++ more) (rw e (delivery_more first old d text more way))
+stops_after (Err fault) old new d pending more e h = λ exact first text way.
+    h exact first (text ++ more) (rw e (delivery_more first old d text more way))
 
 -- Nothing was added yet.
 pub adds_none : (old : Seen) (d : Delivery) → Adds old d old d []
@@ -141,7 +146,7 @@ flat_map-next f (x ∷ xs) (suc i) d h = ap (λ t. f x ++ t) (flat_map-next f xs
 -- At the start nothing is sent or pending.
 pub delivery_starts : (now : Seen) (d : Delivery) → d ≡ all_sent 0 0 → Delivers now now d []
 delivery_starts now d e =
-    let start : Delivers now now (all_sent 0 0) [] = record { sent = []; appended = Appends-nil now.bytes; whole = refl; counted = refl; borne = (refl, (omega arith, inl (omega arith))) } in
+    let start : Delivers now now (all_sent 0 0) [] = record { sent = []; appended = Appends-nil now.bytes; whole = refl; counted = omega arith; borne = (refl, (omega arith, inl (omega arith))) } in
     subst (λ t. Delivers now now t []) (sym e) start
 
 -- A count that continues doesn't fall.
@@ -150,24 +155,25 @@ not_less old new count (few, inl h) = inl (omega (arith, h))
 not_less old new count (few, inr h) = inr h
 
 -- At the end everything is sent.
-pub delivery_ends : (first now : Seen) (d : Delivery) (text : List ℕ) → d.pending ≡ [] → d.interruptions ≤ 1000 → Delivers first now d text → IsWhole first now text d.written
-delivery_ends first now d text e few way =
+pub delivery_ends : (first now : Seen) (d : Delivery) (text : List ℕ) → d.pending ≡ [] → d.interruptions ≤ 1000 → IsExact d.written → Delivers first now d text → IsWhole first now text d.written
+delivery_ends first now d text e few exact way =
     let same : text ≡ way.sent = way.whole ∙ ap (λ p. way.sent ++ p) e ∙ append-nil way.sent in
-    (way.counted ∙ ap length (sym same), subst (λ t. Appends first.bytes now.bytes t) (sym same) way.appended, (way.borne.0, omega (arith, few, way.borne.1.0)), not_less first.interrupted now.interrupted d.interruptions way.borne.1)
+    let size : d.written ≡ length way.sent = omega (arith, way.counted, exact) in
+    (size ∙ ap length (sym same), subst (λ t. Appends first.bytes now.bytes t) (sym same) way.appended, (way.borne.0, omega (arith, few, way.borne.1.0)), not_less first.interrupted now.interrupted d.interruptions way.borne.1)
 
 -- Bytes that were sent at once.
 pub adds_sent : (old now : Seen) (bytes : List ℕ) (written count before after : ℕ) → count ≡ length bytes → SendsAll old now bytes before after
-    → Adds old (all_sent written before) now (all_sent (written + count) after) bytes
+    → Adds old (all_sent written before) now (all_sent (min (written + count) (2 ^ 128 - 1)) after) bytes
 adds_sent old now bytes written count before after size sends = λ first text way.
     let pending = with_more (all_sent written before) bytes in
-    subst (λ n. Delivers first now (all_sent (written + n) after) (text ++ bytes)) (sym size)
+    subst (λ n. Delivers first now (all_sent (min (written + n) (2 ^ 128 - 1)) after) (text ++ bytes)) (sym size)
     (delivery_sent first old now pending after (text ++ bytes) sends (delivery_more first old (all_sent written before) text bytes way))
 
-pub stops_sent : (old now : Seen) (bytes : List ℕ) (written borne sent : ℕ) → SendsFront old now bytes borne sent
-    → Stops old (all_sent written borne) now (record { written = written + sent; kind = WriteFailed }) bytes
-stops_sent old now bytes written borne sent sends = λ first text way.
+pub stops_sent : (old now : Seen) (bytes : List ℕ) (written borne sent told : ℕ) → SendsFront old now bytes borne sent → told ≡ min (written + sent) (2 ^ 128 - 1) → IsExact told
+    → Stops old (all_sent written borne) now (record { written = told; kind = WriteFailed }) bytes
+stops_sent old now bytes written borne sent told sends count exact = λ first text way.
     let pending = with_more (all_sent written borne) bytes in
-    delivery_cut first old now pending (text ++ bytes) sent sends (delivery_more first old (all_sent written borne) text bytes way)
+    delivery_cut first old now pending (text ++ bytes) sent told sends count exact (delivery_more first old (all_sent written borne) text bytes way)
 
 -- A device that is the cause shows it.
 shown : (old new : Seen) → GivesUp old new → HasGivenUp old new
@@ -187,56 +193,95 @@ adds_after (Err fault) old new d after pending more e h = tt
 
 -- Lines that were added to what is pending, and sent with it if it was long.
 pub lines_added : {T : Type 0} (r : Result T WriteFault) (old new : Seen) (d after : Delivery) (pending more : List ℕ) → pending ≡ d.pending ++ more
-    → GoesOnOrCuts old (record d { pending = pending }) new after r → OnOk r (length after.pending < PIECE) → AddsOrStops old d new after 1 more r
-lines_added r old new d after pending more e sends held = record {
+    → GoesOnOrCuts old (record d { pending = pending }) new after r → AddsOrStops old d new after 1 more r
+lines_added r old new d after pending more e sends = record {
   ok = adds_after r old new d after pending more e sends.ok;
   err = stops_after r old new d pending more e sends.err;
+  count = 1;
+  within = omega arith;
+  few = omega arith;
   bound = omega (arith, sends.bound);
   small = small r sends.small;
-  held = held;
+  held = sends.held;
 }
   where
     small : {T : Type 0} (r : Result T WriteFault) → IfErr r (λ fault. fault.written ≤ d.written + 2 ^ 63) → IfErr r (λ fault. fault.written ≤ d.written + 1 * 2 ^ 63)
     small (Ok x) h = tt
     small (Err fault) h = omega (arith, h)
 
+-- Lines for which memory was refused.
+pub lines_refused : {T : Type 0} (old : Seen) (d after : Delivery) (fault : WriteFault) (more : List ℕ) → after.written ≡ d.written → d.interruptions ≤ 1000 → fault ≡ record { written = d.written; kind = OutOfMemory }
+    → AddsOrStops {T = T} old d old after 1 more (Err fault)
+lines_refused old d after fault more same borne is = record {
+  ok = tt;
+  err = λ exact first text way. (
+      let written : fault.written ≡ d.written = ap (λ (f : WriteFault). f.written) is in
+      let size : d.written ≡ length way.sent = omega (arith, written, exact, way.counted) in
+      let whole : take (length way.sent) text ≡ way.sent = rw way.whole (take-append-le (length way.sent) way.sent d.pending (omega arith) ∙ take-length way.sent) in
+      let cut : IsCutAt first.bytes old.bytes text (length way.sent) = (rw (way.whole, length-append way.sent d.pending) (omega arith), subst (λ t. Appends first.bytes old.bytes t) (sym whole) way.appended) in
+      let bears : BearsOn first old = (way.borne.0, omega (arith, borne, way.borne.1.0)) in
+      let by : IsCutBy first old text (record { written = length way.sent; kind = OutOfMemory }) = (cut, bears) in
+      let short : IsCutBy first old text (record { written = d.written; kind = OutOfMemory }) = subst (λ n. IsCutBy first old text (record { written = n; kind = OutOfMemory })) (sym size) by in
+      subst (λ f. IsCutBy first old (text ++ more) f) (sym is) (cut_more first old text more (record { written = d.written; kind = OutOfMemory }) short));
+  count = 1;
+  within = omega arith;
+  few = omega arith;
+  bound = omega (arith, same);
+  small = omega (arith, ap (λ (f : WriteFault). f.written) is);
+  held = tt;
+}
+
 -- Some lines, and then the rest of them.
 pub lines_then : {T : Type 0} (r : Result T WriteFault) (a b c : Seen) (d e f : Delivery) (many more_many : ℕ) (more next : List ℕ)
-    → Adds a d b e more → e.written ≤ d.written + many * 2 ^ 63
+    → many + more_many < 2 ^ 64 + 2 ^ 33 → Adds a d b e more → e.written ≤ d.written + many * 2 ^ 63
     → AddsOrStops b e c f more_many next r → AddsOrStops a d c f (many + more_many) (more ++ next) r
-lines_then (Ok x) a b c d e f many more_many more next adds few then = record {
+lines_then (Ok x) a b c d e f many more_many more next few adds before then = record {
   ok = adds_more a b c d e f more next adds then.ok;
   err = tt;
-  bound = omega (arith, few, then.bound);
+  count = many + then.count;
+  within = omega (arith, then.within);
+  few = omega (arith, few, then.within);
+  bound = omega (arith, before, then.bound);
   small = tt;
   held = then.held;
 }
-lines_then (Err fault) a b c d e f many more_many more next adds few then = record {
+lines_then (Err fault) a b c d e f many more_many more next few adds before then = record {
   ok = tt;
-  err = stops_more a b c d e fault more next [] (more ++ next) (sym (append-nil (more ++ next))) adds then.err;
-  bound = omega (arith, few, then.bound);
-  small = omega (arith, few, then.small);
+  err = λ exact. stops_more a b c d e fault more next [] (more ++ next) (sym (append-nil (more ++ next))) adds (then.err exact);
+  count = many + then.count;
+  within = omega (arith, then.within);
+  few = omega (arith, few, then.within);
+  bound = omega (arith, before, then.bound);
+  small = omega (arith, before, then.small);
   held = tt;
 }
 
 -- Lines within which the text stopped, of more.
 pub lines_stop : {T : Type 0} (a b c : Seen) (d e f : Delivery) (fault : WriteFault) (many some most : ℕ) (more next rest whole : List ℕ) → many + some ≤ most → whole ≡ (more ++ next) ++ rest
     → Adds a d b e more → e.written ≤ d.written + many * 2 ^ 63
-    → Stops b e c fault next → f.written ≤ e.written + some * 2 ^ 63 → fault.written ≤ e.written + some * 2 ^ 63
+    → most < 2 ^ 64 + 2 ^ 33 → (IsExact fault.written → Stops b e c fault next) → f.written ≤ e.written + some * 2 ^ 63 → fault.written ≤ e.written + some * 2 ^ 63
     → AddsOrStops {T = T} a d c f most whole (Err fault)
-lines_stop a b c d e f fault many some most more next rest whole few is adds before stops bound small = record {
+lines_stop a b c d e f fault many some most more next rest whole few is adds before fits stops bound small = record {
   ok = tt;
-  err = stops_more a b c d e fault more next rest whole is adds stops;
+  err = λ exact. stops_more a b c d e fault more next rest whole is adds (stops exact);
+  count = most;
+  within = omega arith;
+  few = fits;
   bound = omega (arith, before, bound, few);
   small = omega (arith, before, small, few);
   held = tt;
 }
 
 pub lines_stop_first : {T : Type 0} (a c : Seen) (d f : Delivery) (fault : WriteFault) (some most : ℕ) (next rest : List ℕ) → some ≤ most
-    → Stops a d c fault next → f.written ≤ d.written + some * 2 ^ 63 → fault.written ≤ d.written + some * 2 ^ 63
+    → most < 2 ^ 64 + 2 ^ 33 → (IsExact fault.written → Stops a d c fault next) → f.written ≤ d.written + some * 2 ^ 63 → fault.written ≤ d.written + some * 2 ^ 63
     → AddsOrStops {T = T} a d c f most (next ++ rest) (Err fault)
-lines_stop_first a c d f fault some most next rest few stops bound small =
-    lines_stop a a c d d f fault 0 some most [] next rest (next ++ rest) (omega (arith, few)) refl (adds_none a d) (omega arith) stops bound small
+lines_stop_first a c d f fault some most next rest few fits stops bound small =
+    lines_stop a a c d d f fault 0 some most [] next rest (next ++ rest) (omega (arith, few)) refl (adds_none a d) (omega arith) fits stops bound small
+
+-- All lines.
+pub lines_done : {T : Type 0} (x : T) (a c : Seen) (d f : Delivery) (many : ℕ) (more : List ℕ) → many < 2 ^ 64 + 2 ^ 33 → Adds a d c f more → f.written ≤ d.written + many * 2 ^ 63 → length f.pending < PIECE
+    → AddsOrStops a d c f many more (Ok x)
+lines_done x a c d f many more few adds bound held = record { ok = adds; err = tt; count = many; within = omega arith; few = few; bound = bound; small = tt; held = held }
 
 -- The same lines, by another name of their text and a greater count.
 pub lines_as : {T : Type 0} (r : Result T WriteFault) (a c : Seen) (d f : Delivery) (many most : ℕ) (more whole : List ℕ) → many ≤ most → more ≡ whole
@@ -244,15 +289,21 @@ pub lines_as : {T : Type 0} (r : Result T WriteFault) (a c : Seen) (d f : Delive
 lines_as (Ok x) a c d f many most more whole few is then = record {
   ok = subst (λ (t : List ℕ). Adds a d c f t) is then.ok;
   err = tt;
-  bound = omega (arith, then.bound, few);
+  count = then.count;
+  within = omega (arith, few, then.within);
+  few = then.few;
+  bound = then.bound;
   small = tt;
   held = then.held;
 }
 lines_as (Err fault) a c d f many most more whole few is then = record {
   ok = tt;
-  err = subst (λ (t : List ℕ). Stops a d c fault t) is then.err;
-  bound = omega (arith, then.bound, few);
-  small = omega (arith, then.small, few);
+  err = λ exact. subst (λ (t : List ℕ). Stops a d c fault t) is (then.err exact);
+  count = then.count;
+  within = omega (arith, few, then.within);
+  few = then.few;
+  bound = then.bound;
+  small = then.small;
   held = tt;
 }
 
@@ -269,7 +320,7 @@ pieces_then (Ok x) a b c d e f many some most more next whole few is adds before
 }
 pieces_then (Err fault) a b c d e f many some most more next whole few is adds before then = record {
   ok = tt;
-  err = stops_more a b c d e fault more next [] whole (is ∙ sym (append-nil (more ++ next))) adds then.err;
+  err = λ exact. stops_more a b c d e fault more next [] whole (is ∙ sym (append-nil (more ++ next))) adds (then.err exact);
   device = then.device;
   bound = omega (arith, few, before, then.bound);
   small = omega (arith, few, before, then.small);
@@ -278,18 +329,24 @@ pieces_then (Err fault) a b c d e f many some most more next whole few is adds b
 -- Pieces within which the device gave up, of more.
 pub pieces_stop : {T : Type 0} (a b c : Seen) (d e f : Delivery) (fault : WriteFault) (many some most : ℕ) (more next rest whole : List ℕ) → many + some ≤ most → whole ≡ (more ++ next) ++ rest
     → Adds a d b e more → e.written ≤ d.written + many * 2 ^ 64
-    → Stops b e c fault next → fault.kind ≡ WriteFailed → f.written ≤ e.written + some * 2 ^ 64 → fault.written ≤ e.written + some * 2 ^ 64
+    → (IsExact fault.written → Stops b e c fault next) → fault.kind ≡ WriteFailed → f.written ≤ e.written + some * 2 ^ 64 → fault.written ≤ e.written + some * 2 ^ 64
     → AddsOrGivesUp {T = T} a d c f most whole (Err fault)
 pieces_stop a b c d e f fault many some most more next rest whole few is adds before stops device bound small = record {
   ok = tt;
-  err = stops_more a b c d e fault more next rest whole is adds stops;
+  err = λ exact. stops_more a b c d e fault more next rest whole is adds (stops exact);
   device = device;
   bound = omega (arith, before, bound, few);
   small = omega (arith, before, small, few);
 }
 
 pub pieces_stop_first : {T : Type 0} (a c : Seen) (d f : Delivery) (fault : WriteFault) (some most : ℕ) (next rest whole : List ℕ) → some ≤ most → whole ≡ next ++ rest
-    → Stops a d c fault next → fault.kind ≡ WriteFailed → f.written ≤ d.written + some * 2 ^ 64 → fault.written ≤ d.written + some * 2 ^ 64
+    → (IsExact fault.written → Stops a d c fault next) → fault.kind ≡ WriteFailed → f.written ≤ d.written + some * 2 ^ 64 → fault.written ≤ d.written + some * 2 ^ 64
     → AddsOrGivesUp {T = T} a d c f most whole (Err fault)
 pieces_stop_first a c d f fault some most next rest whole few is stops device bound small =
     pieces_stop a a c d d f fault 0 some most [] next rest whole (omega (arith, few)) is (adds_none a d) (omega arith) stops device bound small
+
+-- Where no count reaches its end, a text stops as it is told.
+pub told_exactly : {T : Type 0} (r : Result T WriteFault) (old now : Seen) (d : Delivery) (most : ℕ) (more : List ℕ) → most < 2 ^ 128 - 1 → IfErr r (λ fault. fault.written ≤ most)
+    → IfErr r (λ fault. IsExact fault.written → Stops old d now fault more) → IfErr r (λ fault. Stops old d now fault more)
+told_exactly (Ok x) old now d most more few small stops = tt
+told_exactly (Err fault) old now d most more few small stops = stops (omega (arith, few, small))

@@ -1,5 +1,5 @@
 -- The bytes that a device was sent.
-use Rattle.std.specs.Prelude.{◌≡◌, ◌⊎◌, ℕ, ◌+◌, ◌-◌, ◌^◌, ◌≤◌, List, ◌++◌, Option, length, take}
+use Rattle.std.specs.Prelude.{◌≡◌, ◌⊎◌, ℕ, ◌+◌, ◌-◌, ◌^◌, ◌<◌, ◌≤◌, min, List, ◌++◌, Option, length, take}
 use Rattle.std.specs.Io.KnownBytes.{Appends}
 use Rattle.ea_bytes.specs.Device.{Seen, BearsOn, GivesUp}
 use Rattle.ea_report.specs.Delivery.{Delivery}
@@ -30,13 +30,17 @@ pub record SendsFront (old now : Seen) (bytes : List ℕ) (before sent : ℕ) : 
   pub cut : IsCutAt old.bytes now.bytes bytes sent
   pub given_up : (first : Seen) → HasBorne first old before → GivesUp first now
 
--- A text is delivered: its first bytes were sent, this many, and the rest is pending. No call failed, and
--- this many were interrupted.
+-- A count of bytes is exact: it has not reached its end.
+abbrev pub IsExact : ℕ → Type 0
+IsExact written = written < 2 ^ 128 - 1
+
+-- A text is delivered: its first bytes were sent, this many as far as the count reaches, and the rest is
+-- pending. No call failed, and this many were interrupted.
 pub record Delivers (first now : Seen) (delivery : Delivery) (text : List ℕ) : Type 0 where
   pub sent : List ℕ
   pub appended : Appends first.bytes now.bytes sent
   pub whole : text ≡ sent ++ delivery.pending
-  pub counted : delivery.written ≡ length sent
+  pub counted : delivery.written ≡ min (length sent) (2 ^ 128 - 1)
   pub borne : HasBorne first now delivery.interruptions
 
 -- The device's counts show why a text was not written whole: WriteFailed means its first failure, or one

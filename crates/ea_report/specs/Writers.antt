@@ -1,42 +1,37 @@
--- What the writers of a text need and do.
+-- What the writers of a text do.
 use Rattle.std.specs.Prelude.{◌≡◌, ℕ, ◌+◌, ◌*◌, ◌^◌, ◌<◌, ◌≤◌, List, IfErr, IfOk, OnOk, Result, length}
 use Rattle.ea_bytes.specs.Device.{Seen}
 use Rattle.ea_report.specs.Delivery.{Delivery}
-use Rattle.ea_report.specs.Sent.{Adds, Cuts, GoesOn, IsCutBy, IsWhole, Stops}
+use Rattle.ea_report.specs.Sent.{Adds, Cuts, GoesOn, IsCutBy, IsExact, IsWhole, Stops}
 use Rattle.ea_report.specs.declared.report.WriteFault.{WriteFault}
 use Rattle.ea_report.specs.declared.report.WriteFaultKind.TheVariants.{WriteFailed}
 use Rattle.ea_report.specs.declared.report.TheConstants.{PIECE}
 
--- Nothing was sent, and less than a piece is pending.
-pub record IsUnsent (delivery : Delivery) : Type 0 where
-  pub start : delivery.written ≡ 0
-  pub held : length delivery.pending < PIECE
-
--- Less than a piece is pending, and the count of bytes has room for it and for this many lines.
-pub record MayAdd (lines : ℕ) (delivery : Delivery) : Type 0 where
-  pub room : delivery.written + lines * 2 ^ 63 + 2 ^ 63 < 2 ^ 128
-  pub held : length delivery.pending < PIECE
-
 module _ {T : Type 0} (old : Seen) (before : Delivery) (now : Seen) (after : Delivery) where
-  -- What was delivered stays so, or it is cut while the pending text is sent.
+  -- What was delivered stays so, and less than a piece is pending; or it is cut while the pending text is sent.
   pub record GoesOnOrCuts (result : Result T WriteFault) : Type 0 where
     pub ok : OnOk result (GoesOn old before now after)
-    pub err : IfErr result (Cuts old before now)
+    pub err : IfErr result (λ fault. IsExact fault.written → Cuts old before now fault)
     pub bound : after.written ≤ before.written + 2 ^ 63
     pub small : IfErr result (λ fault. fault.written ≤ before.written + 2 ^ 63)
+    pub held : OnOk result (length after.pending < PIECE)
 
-  -- More text was added, this many lines, and less than a piece is pending; or the text stops within them.
+  -- More text was added, up to this many lines, and less than a piece is pending; or the text stops within
+  -- them. The lines are few enough for an exact count of bytes, if it began at 0.
   pub record AddsOrStops (lines : ℕ) (more : List ℕ) (result : Result T WriteFault) : Type 0 where
     pub ok : OnOk result (Adds old before now after more)
-    pub err : IfErr result (λ fault. Stops old before now fault more)
-    pub bound : after.written ≤ before.written + lines * 2 ^ 63
-    pub small : IfErr result (λ fault. fault.written ≤ before.written + lines * 2 ^ 63)
+    pub err : IfErr result (λ fault. IsExact fault.written → Stops old before now fault more)
+    pub count : ℕ
+    pub within : count ≤ lines
+    pub few : count < 2 ^ 64 + 2 ^ 33
+    pub bound : after.written ≤ before.written + count * 2 ^ 63
+    pub small : IfErr result (λ fault. fault.written ≤ before.written + count * 2 ^ 63)
     pub held : OnOk result (length after.pending < PIECE)
 
   -- More text was sent at once, in this many pieces; or the device gave up within them.
   pub record AddsOrGivesUp (pieces : ℕ) (more : List ℕ) (result : Result T WriteFault) : Type 0 where
     pub ok : OnOk result (Adds old before now after more)
-    pub err : IfErr result (λ fault. Stops old before now fault more)
+    pub err : IfErr result (λ fault. IsExact fault.written → Stops old before now fault more)
     pub device : IfErr result (λ fault. fault.kind ≡ WriteFailed)
     pub bound : after.written ≤ before.written + pieces * 2 ^ 64
     pub small : IfErr result (λ fault. fault.written ≤ before.written + pieces * 2 ^ 64)

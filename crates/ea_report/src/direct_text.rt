@@ -6,7 +6,7 @@ ghost use Rattle.ea_base.specs.declared.limits.TheConstants.{MOST_INTERRUPTIONS}
 /// begin at 0.
 #[derive(Drop)]
 pub struct Direct {
-    /// The number of bytes sent.
+    /// The number of bytes sent, as far as it fits.
     pub written: u128,
     /// The number of interrupted calls; up to 1,000 are retried.
     pub interruptions: u64,

@@ -7,7 +7,7 @@ ghost use Rattle.ea_base.specs.declared.limits.TheConstants.{MOST_INTERRUPTIONS}
 pub(crate) struct Pending {
     /// The bytes that are still to be sent.
     pub text: Vec<u8>,
-    /// The number of bytes sent.
+    /// The number of bytes sent, as far as it fits.
     pub written: u128,
     /// The number of interrupted calls; up to 1,000 are retried.
     pub interruptions: u64,

@@ -5,7 +5,7 @@ ghost use Rattle.ea_report.specs.Report.{asked_line, each_node, node_count, repo
 ghost use Rattle.ea_report.specs.Delivery.{all_sent};
 ghost use Rattle.ea_report.specs.Deliverers.{delivery_of};
 ghost use Rattle.ea_report.specs.Sent.{IsCutBy, IsWhole};
-ghost use Rattle.ea_report.specs.Writers.{AddsOrStops, GoesOnOrCuts, IsUnsent, MayAdd, WritesOrCuts};
+ghost use Rattle.ea_report.specs.Writers.{AddsOrStops, GoesOnOrCuts, WritesOrCuts};
 ghost use Rattle.ea_report.specs.Asked.{AreChosen, IsOf, MayReport, MayWriteNode, MayWriteNodes, chosen_by};
 ghost use Rattle.ea_report.specs.FaultNumbers.{kind_number};
 ghost use Rattle.ea_report.specs.declared.report.TheConstants.{PIECE};
@@ -76,19 +76,18 @@ impl Pending {
 
     /// Sends the pending text.
     fn flush<W: ByteOut>(&mut self, out: &mut W) -> Result<(), WriteFault>
-        requires { self.old.written + 2 ^ 63 < 2 ^ 128 }
         ensures sends { GoesOnOrCuts (W.seen out.old) (delivery_of self.old)
             (W.seen out.new) (delivery_of self.new) result }
         ensures empty { OnOk result (self.new.text.items ≡ []) }
     {
         match send(out, &self.text, &mut self.interruptions) {
             Ok(()) => {
-                self.written += self.text.len() as u128;
+                self.written = self.written.saturating_add(self.text.len() as u128);
                 self.text.clear();
                 Ok(())
             }
             Err(sent) => Err(WriteFault {
-                written: self.written + sent as u128,
+                written: self.written.saturating_add(sent as u128),
                 kind: WriteFaultKind::WriteFailed,
             }),
         }
@@ -96,11 +95,8 @@ impl Pending {
 
     /// Sends the pending text if it is long, after a line was added to it.
     fn flush_large<W: ByteOut>(&mut self, out: &mut W) -> Result<(), WriteFault>
-        requires { self.old.written + 2 ^ 63 < 2 ^ 128 }
-        ensures sends { GoesOnOrCuts (W.seen out.old) (delivery_of self.old)
+        ensures { GoesOnOrCuts (W.seen out.old) (delivery_of self.old)
             (W.seen out.new) (delivery_of self.new) result }
-        // Less than a piece is pending.
-        ensures held { OnOk result (length self.new.text.items < PIECE) }
     {
         if self.text.len() >= PIECE {
             self.flush(out)
@@ -116,7 +112,6 @@ impl Pending {
         direction: Direction,
         out: &mut W,
     ) -> Result<(), WriteFault>
-        requires { self.old.written + 2 ^ 63 < 2 ^ 128 }
         ensures { AddsOrStops (W.seen out.old) (delivery_of self.old) (W.seen out.new)
             (delivery_of self.new) 1 (start_line direction source) result }
     {
@@ -134,7 +129,6 @@ impl Pending {
         direction: Direction,
         out: &mut W,
     ) -> Result<(), WriteFault>
-        requires { self.old.written + 2 ^ 63 < 2 ^ 128 }
         ensures { AddsOrStops (W.seen out.old) (delivery_of self.old) (W.seen out.new)
             (delivery_of self.new) 1 (asked_line direction target source) result }
     {
@@ -153,8 +147,7 @@ impl Pending {
         style: Style,
         out: &mut W,
     ) -> Result<(), WriteFault>
-        requires room { self.old.written + 2 ^ 63 < 2 ^ 128 }
-        requires node { MayWriteNode style.walks arcs.old.links answer.now node }
+        requires { MayWriteNode style.walks arcs.old.links answer.now node }
         ensures links { arcs.new.links ≡ arcs.old.links }
         ensures adds { AddsOrStops (W.seen out.old) (delivery_of self.old) (W.seen out.new)
             (delivery_of self.new) 1 (reported_node style answer.now node) result }
@@ -174,8 +167,7 @@ impl Pending {
         style: Style,
         out: &mut W,
     ) -> Result<(), WriteFault>
-        requires room { self.old.written + 2 ^ 63 < 2 ^ 128 }
-        requires node { MayWriteNode style.walks answer.now.links answer.now node }
+        requires { MayWriteNode style.walks answer.now.links answer.now node }
         ensures { AddsOrStops (W.seen out.old) (delivery_of self.old) (W.seen out.new)
             (delivery_of self.new) 1 (reported_node style answer.now node) result }
     {
@@ -190,7 +182,7 @@ impl Pending {
         direction: Direction,
         out: &mut W,
     ) -> Result<(), WriteFault>
-        requires { MayAdd (length sources.now) (delivery_of self.old) }
+        requires { length self.old.text.items < PIECE }
         ensures { AddsOrStops (W.seen out.old) (delivery_of self.old) (W.seen out.new)
             (delivery_of self.new) (length sources.now)
             (flat_map (start_line direction) sources.now) result }
@@ -209,7 +201,7 @@ impl Pending {
         direction: Direction,
         out: &mut W,
     ) -> Result<(), WriteFault>
-        requires { MayAdd (length sources.now) (delivery_of self.old) }
+        requires { length self.old.text.items < PIECE }
         ensures { AddsOrStops (W.seen out.old) (delivery_of self.old) (W.seen out.new)
             (delivery_of self.new) (length sources.now)
             (flat_map (asked_line direction target) sources.now) result }
@@ -229,7 +221,7 @@ impl Pending {
         style: Style,
         out: &mut W,
     ) -> Result<(), WriteFault>
-        requires room { MayAdd nodes (delivery_of self.old) }
+        requires held { length self.old.text.items < PIECE }
         requires nodes { MayWriteNodes style None nodes answer.now }
         ensures { AddsOrStops (W.seen out.old) (delivery_of self.old) (W.seen out.new)
             (delivery_of self.new) nodes
@@ -253,7 +245,7 @@ impl Pending {
         style: Style,
         out: &mut W,
     ) -> Result<(), WriteFault>
-        requires room { MayAdd (length chosen.now) (delivery_of self.old) }
+        requires held { length self.old.text.items < PIECE }
         requires nodes { MayWriteNodes style (Some chosen.now) answer.now.nodes answer.now }
         ensures { AddsOrStops (W.seen out.old) (delivery_of self.old) (W.seen out.new)
             (delivery_of self.new) (length chosen.now)
@@ -275,7 +267,7 @@ impl Pending {
         options: ReportOptions<'_>,
         out: &mut W,
     ) -> Result<(), WriteFault>
-        requires room { MayAdd (node_count (chosen_by options) nodes) (delivery_of self.old) }
+        requires held { length self.old.text.items < PIECE }
         requires nodes { MayWriteNodes options.style (chosen_by options) nodes answer.now }
         ensures { AddsOrStops (W.seen out.old) (delivery_of self.old) (W.seen out.new)
             (delivery_of self.new) (node_count (chosen_by options.entry) nodes)
@@ -308,13 +300,12 @@ impl Pending {
         options: ReportOptions<'_>,
         out: &mut W,
     ) -> Result<(), WriteFault>
-        requires start { IsUnsent (delivery_of self.old) }
+        requires held { length self.old.text.items < PIECE }
         requires nodes { MayWriteNodes options.style (chosen_by options) nodes answer.now }
-        ensures adds { AddsOrStops (W.seen out.old) (delivery_of self.old) (W.seen out.new)
+        ensures { AddsOrStops (W.seen out.old) (delivery_of self.old) (W.seen out.new)
             (delivery_of self.new) (length sources.now + node_count (chosen_by options.entry) nodes)
             (flat_map (start_line options.entry.style.direction) sources.now
             ++ reported_nodes options.entry.style (chosen_by options.entry) nodes answer.now) result }
-        ensures room { self.new.written < 2 ^ 127 + 2 ^ 96 }
     {
         match self.put_starts(sources, options.style.direction, out) {
             Ok(()) => self.put_nodes(alloc, answer, nodes, options, out),
@@ -332,13 +323,12 @@ impl Pending {
         style: Style,
         out: &mut W,
     ) -> Result<(), WriteFault>
-        requires start { IsUnsent (delivery_of self.old) }
+        requires held { length self.old.text.items < PIECE }
         requires node { MayWriteNode style.walks answer.now.links answer.now target }
-        ensures adds { AddsOrStops (W.seen out.old) (delivery_of self.old) (W.seen out.new)
+        ensures { AddsOrStops (W.seen out.old) (delivery_of self.old) (W.seen out.new)
             (delivery_of self.new) (length sources.now + 1)
             (flat_map (asked_line style.direction target) sources.now
             ++ reported_node style answer.now target) result }
-        ensures room { self.new.written < 2 ^ 127 + 2 ^ 96 }
     {
         match self.put_all_asked(sources, target, style.direction, out) {
             Ok(()) => self.put_alone(alloc, answer, target, style, out),
@@ -356,14 +346,13 @@ impl Pending {
         options: ReportOptions<'_>,
         out: &mut W,
     ) -> Result<(), WriteFault>
-        requires start { IsUnsent (delivery_of self.old) }
+        requires held { length self.old.text.items < PIECE }
         requires report { MayReport network.now query.now answer.now options }
-        ensures adds { AddsOrStops (W.seen out.old) (delivery_of self.old) (W.seen out.new)
+        ensures { AddsOrStops (W.seen out.old) (delivery_of self.old) (W.seen out.new)
             (delivery_of self.new)
             (node_count (chosen_by options.entry) network.now.nodes + length query.now.sources + 1)
             (report_text options.entry.style (chosen_by options.entry) network.now.nodes
             query.now answer.now) result }
-        ensures room { self.new.written < 2 ^ 127 + 2 ^ 96 }
     {
         let sources = query.sources();
         match query.target() {

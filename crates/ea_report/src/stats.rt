@@ -37,7 +37,6 @@ pub struct Totals {
 impl Direct {
     /// Sends a field after a space.
     fn put_field<W: ByteOut>(&mut self, field: &[u8], out: &mut W) -> Result<(), WriteFault>
-        requires { self.old.written + 2 * 2 ^ 64 < 2 ^ 128 }
         ensures { AddsOrGivesUp (W.seen out.old) (direct_delivery self.old) (W.seen out.new)
             (direct_delivery self.new) 2 (spaced field.now) result }
     {
@@ -56,7 +55,6 @@ impl Direct {
         total: u128,
         out: &mut W,
     ) -> Result<(), WriteFault>
-        requires { self.old.written + 6 * 2 ^ 64 < 2 ^ 128 }
         ensures { AddsOrGivesUp (W.seen out.old) (direct_delivery self.old) (W.seen out.new)
             (direct_delivery self.new) 6 (total_line (name.now, total)) result }
     {
@@ -73,7 +71,6 @@ impl Direct {
         total: u128,
         out: &mut W,
     ) -> Result<(), WriteFault>
-        requires { self.old.written + 5 * 2 ^ 64 < 2 ^ 128 }
         ensures { AddsOrGivesUp (W.seen out.old) (direct_delivery self.old) (W.seen out.new)
             (direct_delivery self.new) 5 (spaced name.now ++ number_end total) result }
     {
@@ -85,7 +82,6 @@ impl Direct {
 
     /// Sends a number after a space, and the end of its line.
     fn put_number<W: ByteOut>(&mut self, number: u128, out: &mut W) -> Result<(), WriteFault>
-        requires { self.old.written + 3 * 2 ^ 64 < 2 ^ 128 }
         ensures { AddsOrGivesUp (W.seen out.old) (direct_delivery self.old) (W.seen out.new)
             (direct_delivery self.new) 3 (number_end number) result }
     {
@@ -103,7 +99,6 @@ type Row<'a> = (&'a [u8], u128);
 impl Direct {
     /// Sends the lines of totals.
     fn put_totals<W: ByteOut>(&mut self, rows: &[Row<'_>], out: &mut W) -> Result<(), WriteFault>
-        requires { self.old.written + length rows.now * (6 * 2 ^ 64) + 6 * 2 ^ 64 < 2 ^ 128 }
         ensures { AddsOrGivesUp (W.seen out.old) (direct_delivery self.old) (W.seen out.new)
             (direct_delivery self.new) (length rows.now * 6)
             (flat_map (λ row. total_line (row.0.now, row.1)) rows.now) result }

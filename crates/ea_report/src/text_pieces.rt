@@ -13,17 +13,16 @@ use ea_bytes::ByteOut;
 impl Direct {
     /// Sends bytes.
     pub(crate) fn put<W: ByteOut>(&mut self, bytes: &[u8], out: &mut W) -> Result<(), WriteFault>
-        requires { self.old.written + 2 ^ 64 < 2 ^ 128 }
         ensures { AddsOrGivesUp (W.seen out.old) (direct_delivery self.old) (W.seen out.new)
             (direct_delivery self.new) 1 bytes.now result }
     {
         match send(out, bytes, &mut self.interruptions) {
             Ok(()) => {
-                self.written += bytes.len() as u128;
+                self.written = self.written.saturating_add(bytes.len() as u128);
                 Ok(())
             }
             Err(sent) => Err(WriteFault {
-                written: self.written + sent as u128,
+                written: self.written.saturating_add(sent as u128),
                 kind: WriteFaultKind::WriteFailed,
             }),
         }
@@ -40,7 +39,6 @@ impl Direct {
         pieces: &[&[u8]],
         out: &mut W,
     ) -> Result<(), WriteFault>
-        requires { self.old.written + length pieces.now * 2 ^ 64 + 2 ^ 64 < 2 ^ 128 }
         ensures { AddsOrGivesUp (W.seen out.old) (direct_delivery self.old) (W.seen out.new)
             (direct_delivery self.new) (length pieces.now)
             (flat_map (λ piece. piece.now) pieces.now) result }

@@ -8,7 +8,7 @@ pub returns-in_err-rank_one-clause-err : goal.returns-in_err-rank_one-clause-err
 returns-in_err-rank_one-clause-err g c =
     let p = err_from_is_err_and c.from_residual.result c.from_residual.ensures.1 in
     let first = g.W.Device.seen c.args.out.now in
-    rw (p.1, p.2) (ranks_stop c.args.heaps c.args.seed c.args.road.now.network (times_on c.args.road.now) c.args.queries.now c.loop-query.query-index c.query-item.result c.loop-query-test.true c.query-item.is first _ _ _ _ c.loop-query.invariant.borne c.loop-query.invariant.way _ c.in_err-rank_one.ensures.err)
+    rw (p.1, p.2) (ranks_stop c.args.heaps c.args.seed c.args.road.now.network (times_on c.args.road.now) c.args.queries.now c.loop-query.query-index c.query-item.result c.loop-query-test.true c.query-item.is first _ _ _ _ c.loop-query.invariant.borne (omega (arith, c.loop-query.invariant.bound, c.loop-query-test.true, c.requires.few)) c.loop-query.invariant.way _ c.in_err-rank_one.ensures.err)
 
 pub loop-query-preserved : goal.loop-query-preserved
 loop-query-preserved g c =

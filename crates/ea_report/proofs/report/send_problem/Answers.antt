@@ -15,9 +15,9 @@ returns-in_err-put_problem g c =
     let none = ap (λ (d : Delivery). d.written) c.new-pending.ensures in
     rw (p.1, p.2) (record {
       ok = tt;
-      err = c.in_err-put_problem.ensures.adds.err first [] start;
+      err = c.in_err-put_problem.ensures.err (omega (arith, none, c.in_err-put_problem.ensures.small, c.in_err-put_problem.ensures.few)) first [] start;
       bound = tt;
-      small = omega (arith, none, c.in_err-put_problem.ensures.adds.small);
+      small = omega (arith, none, c.in_err-put_problem.ensures.small, c.in_err-put_problem.ensures.within);
     })
 
 pub returns-in_err-flush : goal.returns-in_err-flush
@@ -25,24 +25,24 @@ returns-in_err-flush g c =
     let p = err_from_is_err_and c.from_residual-in_err-flush.result c.from_residual-in_err-flush.ensures.1 in
     let first = (g.W.Device.seen c.args.out.now) in
     let start = delivery_starts first (delivery_of c.new-pending.result) c.new-pending.ensures in
-    let problem = c.in_ok-put_problem.ensures.adds.ok first [] start in
+    let problem = c.in_ok-put_problem.ensures.ok first [] start in
     let none = ap (λ (d : Delivery). d.written) c.new-pending.ensures in
     rw (p.1, p.2) (record {
       ok = tt;
-      err = c.in_err-flush.ensures.sends.err first _ problem;
+      err = c.in_err-flush.ensures.sends.err (omega (arith, none, c.in_err-flush.ensures.sends.small, c.in_ok-put_problem.ensures.bound, c.in_ok-put_problem.ensures.few)) first _ problem;
       bound = tt;
-      small = omega (arith, none, c.in_err-flush.ensures.sends.small, c.in_ok-put_problem.ensures.adds.bound);
+      small = omega (arith, none, c.in_err-flush.ensures.sends.small, c.in_ok-put_problem.ensures.bound, c.in_ok-put_problem.ensures.within);
     })
 
 pub returns : goal.returns
 returns g c =
     let first = (g.W.Device.seen c.args.out.now) in
     let start = delivery_starts first (delivery_of c.new-pending.result) c.new-pending.ensures in
-    let problem = c.in_ok-put_problem.ensures.adds.ok first [] start in
+    let problem = c.in_ok-put_problem.ensures.ok first [] start in
     let none = ap (λ (d : Delivery). d.written) c.new-pending.ensures in
     record {
-      ok = delivery_ends first _ (delivery_of c.flush.new.self) (report_text c.args.options.style (chosen_by c.args.options) c.args.network.now.nodes c.args.query.now c.args.answer.now) c.in_ok-flush.ensures.empty c.flush.new.self.borne (c.in_ok-flush.ensures.sends.ok first _ problem);
+      ok = delivery_ends first _ (delivery_of c.flush.new.self) (report_text c.args.options.style (chosen_by c.args.options) c.args.network.now.nodes c.args.query.now c.args.answer.now) c.in_ok-flush.ensures.empty c.flush.new.self.borne (omega (arith, none, c.in_ok-flush.ensures.sends.bound, c.in_ok-put_problem.ensures.bound, c.in_ok-put_problem.ensures.few)) (c.in_ok-flush.ensures.sends.ok first _ problem);
       err = tt;
-      bound = omega (arith, none, c.in_ok-flush.ensures.sends.bound, c.in_ok-put_problem.ensures.adds.bound);
+      bound = omega (arith, none, c.in_ok-flush.ensures.sends.bound, c.in_ok-put_problem.ensures.bound, c.in_ok-put_problem.ensures.within);
       small = tt;
     }

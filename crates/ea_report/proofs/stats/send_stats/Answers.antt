@@ -14,8 +14,8 @@ returns-in-Ok-clause-writes g c =
     let first = (g.W.Device.seen c.args.out.now) in
     let start = delivery_starts first (all_sent 0 0) refl in
     let now = (g.W.Device.seen c.put_totals.new.out) in
-    let whole = delivery_ends first now (direct_delivery c.put_totals.new.self) _ refl c.put_totals.new.self.borne (c.in-Ok.ensures.ok first [] start) in
     let eight = ap (λ rows. length rows) c.as_slice-9.ensures in
+    let whole = delivery_ends first now (direct_delivery c.put_totals.new.self) _ refl c.put_totals.new.self.borne (omega (arith, eight, c.in-Ok.ensures.bound)) (c.in-Ok.ensures.ok first [] start) in
     record {
       ok = subst (λ (t : List ℕ). IsWhole first now t c.put_totals.new.self.written) text whole;
       err = tt;
@@ -33,7 +33,7 @@ returns-in-Err-clause-writes g c =
     let eight = ap (λ rows. length rows) c.as_slice-9.ensures in
     record {
       ok = tt;
-      err = subst (λ (t : List ℕ). IsCutBy first now t c.in-Err.fault) text (c.in-Err.ensures.err first [] start);
+      err = subst (λ (t : List ℕ). IsCutBy first now t c.in-Err.fault) text (c.in-Err.ensures.err (omega (arith, eight, c.in-Err.ensures.small)) first [] start);
       bound = tt;
       small = omega (arith, eight, c.in-Err.ensures.small);
     }

@@ -7,7 +7,7 @@ returns-in-Ok g c =
     let old = (g.W.Device.seen c.args.out.now) in
     let now = (g.W.Device.seen c.send.new.out) in
     record {
-      ok = adds_sent old now c.args.bytes.now _ _ _ _ refl c.in-Ok.ensures.ok;
+      ok = rw c.saturating_add-self.ensures (adds_sent old now c.args.bytes.now _ _ _ _ refl c.in-Ok.ensures.ok);
       err = tt;
       device = tt;
       bound = omega arith;
@@ -20,7 +20,7 @@ returns-in-Err g c =
     let now = (g.W.Device.seen c.send.new.out) in
     record {
       ok = tt;
-      err = stops_sent old now c.args.bytes.now _ _ c.in-Err.sent c.in-Err.ensures.err;
+      err = stops_sent old now c.args.bytes.now _ _ c.in-Err.sent _ c.in-Err.ensures.err c.saturating_add.ensures;
       device = refl;
       bound = omega arith;
       small = omega (arith, c.in-Err.ensures.err.cut.0);

@@ -11,10 +11,11 @@ returns-in-Ok-clause-sends g c =
     let len : c.len.result ≡ length pending = omega (arith, c.args.self.now.text.ok.0) in
     let old = (g.W.Device.seen c.args.out.now) in
     let now = (g.W.Device.seen c.send.new.out) in record {
-      ok = λ first text way. rw (c.clear.ensures.items, len) (delivery_sent first old now (delivery_of c.args.self.now) _ text sent way);
+      ok = λ first text way. rw (c.clear.ensures.items, c.saturating_add-self.ensures, len) (delivery_sent first old now (delivery_of c.args.self.now) _ text sent way);
       err = tt;
       bound = omega arith;
       small = tt;
+      held = rw c.clear.ensures.items (omega arith);
     }
 
 pub returns-in-Err-clause-sends : goal.returns-in-Err-clause-sends
@@ -24,7 +25,8 @@ returns-in-Err-clause-sends g c =
     let old = (g.W.Device.seen c.args.out.now) in
     let now = (g.W.Device.seen c.send.new.out) in record {
       ok = tt;
-      err = λ first text way. delivery_cut first old now (delivery_of c.args.self.now) text c.in-Err.sent sent way;
+      err = λ exact first text way. delivery_cut first old now (delivery_of c.args.self.now) text c.in-Err.sent _ sent (c.saturating_add.ensures) exact way;
       bound = omega arith;
-      small = omega (arith, sent.cut.0, c.args.self.now.text.ok.0);
+      small = omega (arith, sent.cut.0, c.args.self.now.text.ok.0, c.saturating_add.ensures);
+      held = tt;
     }

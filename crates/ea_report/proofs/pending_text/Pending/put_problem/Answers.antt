@@ -7,8 +7,8 @@ use Rattle.ea_report.proofs.Pieces.{lines_as}
 use Rattle.ea_report.proofs.Problems.{all_text, target_text}
 use Rattle.ea_report.proofs.pending_text.Pending.put_problem.Goals as goal
 
-pub returns-in-None-clause-adds : goal.returns-in-None-clause-adds
-returns-in-None-clause-adds g c =
+pub returns-in-None : goal.returns-in-None
+returns-in-None g c =
     let style = c.args.options.style in
     let chosen = chosen_by c.args.options in
     let answer = c.args.answer.now in
@@ -17,10 +17,10 @@ returns-in-None-clause-adds g c =
     ∙ all_text style chosen c.args.network.now.nodes c.args.query.now answer (sym c.target.ensures.target ∙ c.in-None.is) in
     let sources = ap (λ (xs : List Source). length xs) c.sources-sources.ensures.sources in
     let nodes = ap (node_count chosen) c.nodes.ensures.nodes in
-    lines_as c.put_all.result _ _ _ _ _ _ _ _ (omega (arith, sources, nodes)) text c.put_all.ensures.adds
+    lines_as c.put_all.result _ _ _ _ _ _ _ _ (omega (arith, sources, nodes)) text c.put_all.ensures
 
-pub returns-in-Some-clause-adds : goal.returns-in-Some-clause-adds
-returns-in-Some-clause-adds g c =
+pub returns-in-Some : goal.returns-in-Some
+returns-in-Some g c =
     let style = c.args.options.style in
     let chosen = chosen_by c.args.options in
     let answer = c.args.answer.now in
@@ -29,4 +29,4 @@ returns-in-Some-clause-adds g c =
     ap (λ sources. flat_map (asked_line style.direction target) sources ++ reported_node style answer target) c.sources-sources.ensures.sources
     ∙ target_text style chosen c.args.network.now.nodes c.args.query.now answer target (sym c.target.ensures.target ∙ c.in-Some.is) in
     let sources = ap (λ (xs : List Source). length xs) c.sources-sources.ensures.sources in
-    lines_as c.put_target.result _ _ _ _ _ _ _ _ (omega (arith, sources)) text c.put_target.ensures.adds
+    lines_as c.put_target.result _ _ _ _ _ _ _ _ (omega (arith, sources)) text c.put_target.ensures
