@@ -6,7 +6,7 @@ use Rattle.ea_road.specs.Queries.{Asking}
 use Rattle.ea_road.specs.Roads.{Roads}
 use Rattle.ea_check.specs.declared.judge.part.Part.{Part}
 use Rattle.ea_check.specs.Parts.{AreFewParts, AreAllJudged}
-use Rattle.ea_check.specs.Verdicts.{Said, IsTask, IsWellFormed}
+use Rattle.ea_check.specs.Verdicts.{Said, MayJudge}
 
 -- What such a call is given.
 abbrev pub Given : Type 0
@@ -20,6 +20,6 @@ module _ {F : Type 0} (g : Shared F Given Left) (f : F) (roads : Roads) (answers
   -- Whatever the problem and its reported times, the parts may be judged, and are judged then.
   abbrev pub JudgesBy : Type 0
   JudgesBy =
-      (query : Bor Asking) (reported : Bor (List Said)) (above : ℕ) (parts : MutBor (List Part)) → IsTask roads classes query.now.sources → IsWellFormed roads.nodes reported.now → AreFewParts roads parts.now
+      (query : Bor Asking) (reported : Bor (List Said)) (above : ℕ) (parts : MutBor (List Part)) → MayJudge roads classes query.now.sources reported.now → AreFewParts roads parts.now
       → g.pre f (query, (reported, (above, (parts, tt))))
       × ((after : MutBor (List Part)) → g.post f (query, (reported, (above, (parts, tt)))) (tt, (after, tt)) → AreAllJudged roads answers query.now.sources reported.now above parts.now after.now)

@@ -1,10 +1,10 @@
 -- Nodes whose reported times are supported by a source, or by an arc from an earlier time.
-use Rattle.std.specs.Prelude.{◌≡◌, ℕ, ◌-◌, ◌<◌, Bool, true, false, List, length, slice_index_or}
+use Rattle.std.specs.Prelude.{◌≡◌, ◌⊎◌, ℕ, ◌-◌, ◌<◌, ◌≤◌, Bool, true, false, List, length, slice_index_or}
 use Rattle.std.specs.List.{IsAmong}
 use Rattle.ea_road.specs.declared.source.Source.{Source}
 use Rattle.ea_road.specs.Roads.{Roads}
 use Rattle.ea_road.specs.Levels.{IsTight}
-use Rattle.ea_check.specs.Verdicts.{Said, IsReported, reported_time}
+use Rattle.ea_check.specs.Verdicts.{Said, Improves, IsReported, IsTask, IsWellFormed, reported_time}
 
 -- A source at the node departs at its reported time, or a tight arc leads to it from an earlier time.
 pub data IsSupported
@@ -30,3 +30,30 @@ pub record AreSupported
     : Type 0 where
   pub each_node : length marks ≡ roads.nodes
   pub each : (node : ℕ) → 0 < node → IsMarked marks node → IsSupported roads answers sources reported node
+
+-- The lines of a problem can be judged, and the marked nodes are supported.
+pub record MayMark
+    (roads : Roads)
+    (answers : ℕ → ℕ → ℕ → ℕ → Type 0)
+    (classes : ℕ)
+    (sources : List Source)
+    (reported : List Said)
+    (marks : List Bool)
+    : Type 0 where
+  pub task : IsTask roads classes sources
+  pub formed : IsWellFormed roads.nodes reported
+  pub are_supported : AreSupported roads answers sources reported marks
+
+-- The lowest node was kept, or one below it was found whose reported time is improved; and the marked nodes are
+-- supported.
+pub record FindsLower
+    (roads : Roads)
+    (answers : ℕ → ℕ → ℕ → ℕ → Type 0)
+    (sources : List Source)
+    (reported : List Said)
+    (above lowest : ℕ)
+    (marks : List Bool)
+    : Type 0 where
+  pub lower : lowest ≤ above
+  pub found : (lowest ≡ above) ⊎ Improves roads answers sources (reported_time reported) lowest
+  pub are_supported : AreSupported roads answers sources reported marks

@@ -158,6 +158,11 @@ pub record IsTask (roads : Roads) (classes : ℕ) (sources : List Source) : Type
   pub classed : top_class roads.arcs ≤ classes
   pub starts : (source : Source) → IsAmong sources source → IsNode roads.nodes source.node × (source.departure ≤ HORIZON)
 
+-- The lines of a problem can be judged: it is a task, and their form is right.
+pub record MayJudge (roads : Roads) (classes : ℕ) (sources : List Source) (reported : List Said) : Type 0 where
+  pub task : IsTask roads classes sources
+  pub formed : IsWellFormed roads.nodes reported
+
 -- The verdict on a problem whose form is right.
 abbrev pub IsVerdict : Roads → (ℕ → ℕ → ℕ → ℕ → Type 0) → List Source → List Said → Result (Unit {0}) CheckFault → Type 0
 IsVerdict roads answers sources reported (Ok _) = IsFaultless roads answers sources reported

@@ -12,7 +12,7 @@ ghost use denote.Param.Send.{IsSync};
 ghost use Rattle.ea_check.specs.Judges.{JudgesBy};
 ghost use Rattle.ea_check.specs.Parts.{AreAllJudged, AreFewParts};
 ghost use Rattle.ea_check.specs.Streams.{IsSound, IsWholeText, most_bytes};
-ghost use Rattle.ea_check.specs.Verdicts.{IsTask, IsVerdict, IsWellFormed};
+ghost use Rattle.ea_check.specs.Verdicts.{IsVerdict, MayJudge};
 
 use crate::fault::CheckFault;
 use crate::form::ahead::Ahead;
@@ -45,8 +45,7 @@ fn check_next<J: Fn(&Query, &Reported, u32, &mut [Part]), T: TravelTimes>(
 ) -> Result<(), CheckFault>
     requires judging { JudgesBy J.Fn judging.now network.now (T.answers times.now)
         (T.classes times.now) }
-    requires task { IsTask network.now (T.classes times.now) query.now.sources }
-    requires formed { IsWellFormed network.now.nodes reported.now }
+    requires problem { MayJudge network.now (T.classes times.now) query.now.sources reported.now }
     requires parts { AreFewParts network.now parts.old }
     ensures verdict { MatchResult before
         (λ _. IsVerdict network.now (T.answers times.now) query.now.sources reported.now result)
@@ -180,8 +179,8 @@ pub fn check_stream<H: Threads + Sync, T: TravelTimes + Sync, R: ByteIn, V: Watc
     let rt = team.rt;
     let judging = |query: &Query, reported: &Reported, above: u32, parts: &mut [Part]|
         requires { IsSync H.row × IsSync T.row
-            × IsTask network.now (T.classes times.now) query.now.sources
-            × IsWellFormed network.now.nodes reported.now × AreFewParts network.now parts.now }
+            × MayJudge network.now (T.classes times.now) query.now.sources reported.now
+            × AreFewParts network.now parts.now }
         ensures { AreAllJudged network.entry.now (T.answers times.entry.now) query.entry.now.sources
             reported.entry.now above parts.entry.now parts.exit.now }
     { judge_parts_by(rt, network, times, query, reported, above, parts) };
@@ -270,8 +269,8 @@ pub fn check_watched<T: TravelTimes, V: Watch>(
     let mut device = TextIn::new(report);
     let way = Direction::Forward;
     let judging = |query: &Query, reported: &Reported, above: u32, parts: &mut [Part]|
-        requires { IsTask network.now (T.classes times.now) query.now.sources
-            × IsWellFormed network.now.nodes reported.now × AreFewParts network.now parts.now }
+        requires { MayJudge network.now (T.classes times.now) query.now.sources reported.now
+            × AreFewParts network.now parts.now }
         ensures { AreAllJudged network.entry.now (T.answers times.entry.now) query.entry.now.sources
             reported.entry.now above parts.entry.now parts.exit.now }
     { judge_parts(network, times, query, reported, above, parts) };

@@ -1,10 +1,8 @@
 //! Comparing walks with links.
 ghost use Rattle.std.specs.Prelude.{◌≡◌, ◌<◌, ◌≤◌, ◌+◌, ◌↔◌, ℕ, IfOk, IsTrue, List, OnOk, length, slice_index, take};
-ghost use Rattle.ea_road.specs.Roads.{IsNode};
 ghost use Rattle.ea_search.specs.declared.link.Link.{Link as LinkType};
-ghost use Rattle.ea_search.specs.declared.link.TheConstants.{NO_LEVEL};
-ghost use Rattle.ea_search.specs.Links.{link, linked_walk};
-ghost use Rattle.ea_paths.specs.Stored.{AreFollowable};
+ghost use Rattle.ea_search.specs.Links.{linked_walk};
+ghost use Rattle.ea_report.specs.Walks.{HasWalk};
 ghost use Rattle.ea_check.specs.Paths.{IsPassed};
 
 use crate::form::walk_reader::WalkReader;
@@ -49,9 +47,7 @@ impl Path {
         node: u32,
         arcs: &[u32],
     ) -> Result<bool, AllocError>
-        requires node { IsNode (length links.now) node }
-        requires followable { AreFollowable links.now }
-        requires level { (link links.now node).level < NO_LEVEL }
+        requires walk { HasWalk links.now node }
         requires passed { IsPassed links.now arcs.now self.old.nodes.items self.old.known }
         ensures same { IfOk result
             (λ same. IsTrue same ↔ (arcs.now ≡ linked_walk links.now node)) }
@@ -88,9 +84,7 @@ fn stands_at(nodes: &[u32], known: usize, place: usize, node: u32) -> bool
 
 /// Whether the arcs are those along the links of a node. Follows the links back until a place is known.
 fn go_back(links: &[Link], node: u32, arcs: &[u32], nodes: &mut [u32], known: usize) -> bool
-    requires node { IsNode (length links.now) node }
-    requires followable { AreFollowable links.now }
-    requires level { (link links.now node).level < NO_LEVEL }
+    requires walk { HasWalk links.now node }
     requires places { length arcs.now < length nodes.old }
     requires passed { IsPassed links.now arcs.now nodes.old known }
     ensures same { IsTrue result ↔ (arcs.now ≡ linked_walk links.now node) }

@@ -1,18 +1,15 @@
 //! The fault of a report of one problem whose form is right.
-ghost use Rattle.std.specs.Prelude.{◌≡◌, ◌+◌, ◌≤◌, ◌<◌, ◌⊎◌, ℕ, MatchOption, OnOk, false, length, replicate};
+ghost use Rattle.std.specs.Prelude.{◌≡◌, ◌+◌, ◌≤◌, ◌<◌, ℕ, MatchOption, OnOk, false, length, replicate};
 ghost use Rattle.std.specs.List.{IsAmong};
 ghost use Rattle.ea_base.specs.declared.limits.TheConstants.{HORIZON};
 ghost use Rattle.ea_road.specs.declared.arc.Arc.{Arc};
 ghost use Rattle.ea_road.specs.Roads.{IsArc, IsNode};
-ghost use Rattle.ea_search.specs.Links.{AreLinks};
-ghost use Rattle.ea_check.specs.Starts.{AreOrdered};
 ghost use Rattle.ea_check.specs.Nodes.{IsFirstOther, IsOtherAt};
-ghost use Rattle.ea_check.specs.Supported.{AreSupported};
+ghost use Rattle.ea_check.specs.Supported.{AreSupported, FindsLower, MayMark};
 ghost use Rattle.ea_check.specs.Judges.{JudgesBy};
 ghost use Rattle.ea_check.specs.Parts.{AreFewParts, AreJudged, IsJudged, IsPart, IsRange, PassedIn};
-ghost use Rattle.ea_check.specs.Passing.{HasPassed};
-ghost use Rattle.ea_check.specs.WalksLeft.{IsAtNode};
-ghost use Rattle.ea_check.specs.Verdicts.{AreUnimproved, Improves, IsFirst, IsNotLeast, IsReported, IsTask, IsVerdict, IsWellFormed, reported_time};
+ghost use Rattle.ea_check.specs.Passing.{ComparesFrom, MayCompare};
+ghost use Rattle.ea_check.specs.Verdicts.{AreUnimproved, IsFirst, IsNotLeast, IsVerdict, MayJudge, reported_time};
 
 use crate::fault::CheckFault;
 use crate::form::reported::Reported;
@@ -41,18 +38,13 @@ fn other_at<T: TravelTimes>(
     node: u32,
     walks: &mut Compared<'_>,
 ) -> Result<Option<u64>, CheckFault>
-    requires task { IsTask network.now (T.classes times.now) query.now.sources }
-    requires ordered { AreOrdered query.now.sources ordered.now }
-    requires formed { IsWellFormed network.now.nodes reported.now }
-    requires links { AreLinks network.now (T.answers times.now) query.now.sources
-        (IsReported reported.now) links.now }
+    requires problem { MayCompare network.now (T.answers times.now) (T.classes times.now)
+        query.now.sources ordered.now reported.now links.now }
     requires node { IsNode network.now.nodes node }
-    requires walks { IsAtNode reported.now node walks.old.reader }
-    requires passed { HasPassed links.now walks.old }
+    requires compares { ComparesFrom links.now reported.now node walks.old }
     ensures other { IsOtherAt network.now
         (T.answers times.now) query.now.sources reported.now node result }
-    ensures walks { OnOk result (IsAtNode reported.now (node + 1) walks.new.reader) }
-    ensures passed { OnOk result (HasPassed links.now walks.new) }
+    ensures compares { OnOk result (ComparesFrom links.now reported.now (node + 1) walks.new) }
 {
     let walk = walks.reader.read_next()?;
     walks.path.keep(walks.reader.shared);
@@ -95,11 +87,8 @@ fn first_other<T: TravelTimes>(
     reported: &Reported,
     links: &[Link],
 ) -> Result<Option<u64>, CheckFault>
-    requires task { IsTask network.now (T.classes times.now) query.now.sources }
-    requires ordered { AreOrdered query.now.sources ordered.now }
-    requires formed { IsWellFormed network.now.nodes reported.now }
-    requires links { AreLinks network.now (T.answers times.now) query.now.sources
-        (IsReported reported.now) links.now }
+    requires { MayCompare network.now (T.answers times.now) (T.classes times.now)
+        query.now.sources ordered.now reported.now links.now }
     ensures { IsFirstOther network.now (T.answers times.now) query.now.sources reported.now result }
 {
     let mut walks = Compared {
@@ -127,22 +116,15 @@ fn lower_by_arc<T: TravelTimes>(
     lowest: u32,
     marks: &mut [bool],
 ) -> u32
-    requires task { IsTask network.now (T.classes times.now) query.now.sources }
-    requires formed { IsWellFormed network.now.nodes reported.now }
-    requires from_one { 0 < number }
-    requires to_last { number ≤ length network.now.arcs }
-    requires marks { AreSupported network.now
-        (T.answers times.now) query.now.sources reported.now marks.old }
-    ensures lower { result ≤ lowest }
-    ensures found { (result ≡ lowest)
-        ⊎ Improves network.now (T.answers times.now) query.now.sources
-        (reported_time reported.now) result }
+    requires problem { MayMark network.now (T.answers times.now) (T.classes times.now)
+        query.now.sources reported.now marks.old }
+    requires arc { (0 < number) × (number ≤ length network.now.arcs) }
+    ensures finds { FindsLower network.now (T.answers times.now) query.now.sources
+        reported.now lowest result marks.new }
     ensures passed { (arc : Arc) (arrival : ℕ) → IsArc network.now number arc
         → reported_time reported.now arc.tail ≤ HORIZON
         → T.answers times.now arc.class arc.weight (reported_time reported.now arc.tail) arrival
         → arrival ≤ HORIZON → arrival < reported_time reported.now arc.head → result ≤ arc.head }
-    ensures marks { AreSupported network.now
-        (T.answers times.now) query.now.sources reported.now marks.new }
 {
     let arc = network.arc(number);
     let departure = reported.time(arc.tail);
@@ -174,17 +156,12 @@ fn lowest_in_range<T: TravelTimes>(
     above: u32,
     marks: &mut [bool],
 ) -> u32
-    requires task { IsTask network.now (T.classes times.now) query.now.sources }
-    requires formed { IsWellFormed network.now.nodes reported.now }
+    requires problem { MayMark network.now (T.answers times.now) (T.classes times.now)
+        query.now.sources reported.now marks.old }
     requires range { IsRange network.now arcs }
-    requires marks { AreSupported network.now
-        (T.answers times.now) query.now.sources reported.now marks.old }
-    ensures found { (result ≡ above)
-        ⊎ Improves network.now (T.answers times.now) query.now.sources
-        (reported_time reported.now) result }
+    ensures finds { FindsLower network.now (T.answers times.now) query.now.sources
+        reported.now above result marks.new }
     ensures passed { PassedIn network.now (T.answers times.now) reported.now arcs result }
-    ensures marks { AreSupported network.now
-        (T.answers times.now) query.now.sources reported.now marks.new }
 {
     let mut lowest = above;
     for number in arcs.from..arcs.to {
@@ -209,8 +186,7 @@ pub(crate) fn judge_part<T: TravelTimes>(
     above: u32,
     part: &mut Part,
 )
-    requires task { IsTask network.now (T.classes times.now) query.now.sources }
-    requires formed { IsWellFormed network.now.nodes reported.now }
+    requires problem { MayJudge network.now (T.classes times.now) query.now.sources reported.now }
     requires part { IsPart network.now part.old }
     ensures { IsJudged network.now (T.answers times.now) query.now.sources reported.now above
         part.old part.new }
@@ -229,8 +205,7 @@ pub(crate) fn judge_parts<T: TravelTimes>(
     above: u32,
     parts: &mut [Part],
 )
-    requires task { IsTask network.now (T.classes times.now) query.now.sources }
-    requires formed { IsWellFormed network.now.nodes reported.now }
+    requires problem { MayJudge network.now (T.classes times.now) query.now.sources reported.now }
     requires parts { AreFewParts network.now parts.old }
     ensures { AreJudged network.now (T.answers times.now) query.now.sources reported.now above
         parts.old parts.new }
@@ -250,15 +225,14 @@ pub(crate) fn judge_parts_by<H: Threads + Sync, T: TravelTimes + Sync>(
     above: u32,
     parts: &mut [Part],
 )
-    requires task { IsTask network.now (T.classes times.now) query.now.sources }
-    requires formed { IsWellFormed network.now.nodes reported.now }
+    requires problem { MayJudge network.now (T.classes times.now) query.now.sources reported.now }
     requires parts { AreFewParts network.now parts.old }
     ensures { AreJudged network.now (T.answers times.now) query.now.sources reported.now above
         parts.old parts.new }
 {
     let judging = |_place: usize, part: &mut Part|
-        requires { IsTask network.now (T.classes times.now) query.now.sources
-            × IsWellFormed network.now.nodes reported.now × IsPart network.now part.now }
+        requires { MayJudge network.now (T.classes times.now) query.now.sources reported.now
+            × IsPart network.now part.now }
         ensures { IsJudged network.entry.now (T.answers times.entry.now) query.entry.now.sources
             reported.entry.now above part.entry.now part.exit.now }
     { judge_part(network, times, query, reported, above, part) };
@@ -279,21 +253,15 @@ fn lowest_by_arcs<J: Fn(&Query, &Reported, u32, &mut [Part]), T: TravelTimes>(
 ) -> u32
     requires judging { JudgesBy J.Fn judging.now network.now (T.answers times.now)
         (T.classes times.now) }
-    requires task { IsTask network.now (T.classes times.now) query.now.sources }
-    requires formed { IsWellFormed network.now.nodes reported.now }
-    requires marks { AreSupported network.now
-        (T.answers times.now) query.now.sources reported.now marks.old }
+    requires problem { MayMark network.now (T.answers times.now) (T.classes times.now)
+        query.now.sources reported.now marks.old }
     requires parts { AreFewParts network.now parts.old }
-    ensures lower { result ≤ above }
-    ensures found { (result ≡ above)
-        ⊎ Improves network.now (T.answers times.now) query.now.sources
-        (reported_time reported.now) result }
+    ensures finds { FindsLower network.now (T.answers times.now) query.now.sources
+        reported.now above result marks.new }
     ensures passed { (number : ℕ) (arc : Arc) (arrival : ℕ) → IsArc network.now number arc
         → reported_time reported.now arc.tail ≤ HORIZON
         → T.answers times.now arc.class arc.weight (reported_time reported.now arc.tail) arrival
         → arrival ≤ HORIZON → arrival < reported_time reported.now arc.head → result ≤ arc.head }
-    ensures marks { AreSupported network.now
-        (T.answers times.now) query.now.sources reported.now marks.new }
     ensures parts { AreFewParts network.now parts.new }
 {
     judging(query, reported, above, parts);
@@ -312,20 +280,14 @@ fn lower_by_source<T: TravelTimes>(
     lowest: u32,
     marks: &mut [bool],
 ) -> u32
-    requires task { IsTask network.now (T.classes times.now) query.now.sources }
-    requires formed { IsWellFormed network.now.nodes reported.now }
+    requires problem { MayMark network.now (T.answers times.now) (T.classes times.now)
+        query.now.sources reported.now marks.old }
     requires source { IsAmong query.now.sources source }
     requires node { IsNode (length reported.now) source.node }
-    requires marks { AreSupported network.now
-        (T.answers times.now) query.now.sources reported.now marks.old }
-    ensures lower { result ≤ lowest }
-    ensures found { (result ≡ lowest)
-        ⊎ Improves network.now (T.answers times.now) query.now.sources
-        (reported_time reported.now) result }
+    ensures finds { FindsLower network.now (T.answers times.now) query.now.sources
+        reported.now lowest result marks.new }
     ensures passed { source.departure < reported_time reported.now source.node
         → result ≤ source.node }
-    ensures marks { AreSupported network.now
-        (T.answers times.now) query.now.sources reported.now marks.new }
 {
     let time = reported.time(source.node);
     if source.departure < time {
@@ -347,18 +309,12 @@ fn lowest_by_sources<T: TravelTimes>(
     above: u32,
     marks: &mut [bool],
 ) -> u32
-    requires task { IsTask network.now (T.classes times.now) query.now.sources }
-    requires formed { IsWellFormed network.now.nodes reported.now }
-    requires marks { AreSupported network.now
-        (T.answers times.now) query.now.sources reported.now marks.old }
-    ensures lower { result ≤ above }
-    ensures found { (result ≡ above)
-        ⊎ Improves network.now (T.answers times.now) query.now.sources
-        (reported_time reported.now) result }
+    requires { MayMark network.now (T.answers times.now) (T.classes times.now)
+        query.now.sources reported.now marks.old }
+    ensures finds { FindsLower network.now (T.answers times.now) query.now.sources
+        reported.now above result marks.new }
     ensures passed { (source : Source) → IsAmong query.now.sources source
         → source.departure < reported_time reported.now source.node → result ≤ source.node }
-    ensures marks { AreSupported network.now
-        (T.answers times.now) query.now.sources reported.now marks.new }
 {
     let mut lowest = above;
     for source in query.sources() {
@@ -379,10 +335,8 @@ fn first_not_least<J: Fn(&Query, &Reported, u32, &mut [Part]), T: TravelTimes>(
 ) -> Option<u64>
     requires judging { JudgesBy J.Fn judging.now network.now (T.answers times.now)
         (T.classes times.now) }
-    requires task { IsTask network.now (T.classes times.now) query.now.sources }
-    requires formed { IsWellFormed network.now.nodes reported.now }
-    requires marks { AreSupported network.now
-        (T.answers times.now) query.now.sources reported.now marks.old }
+    requires problem { MayMark network.now (T.answers times.now) (T.classes times.now)
+        query.now.sources reported.now marks.old }
     requires parts { AreFewParts network.now parts.old }
     ensures least { MatchOption result
         (AreUnimproved network.now (T.answers times.now) query.now.sources reported.now)
@@ -414,10 +368,8 @@ fn first_by_marks<T: TravelTimes>(
     reported: &Reported,
     marks: &[bool],
 ) -> Result<Option<u64>, CheckFault>
-    requires task { IsTask network.now (T.classes times.now) query.now.sources }
-    requires formed { IsWellFormed network.now.nodes reported.now }
-    requires marks { AreSupported network.now
-        (T.answers times.now) query.now.sources reported.now marks.now }
+    requires { MayMark network.now (T.answers times.now) (T.classes times.now)
+        query.now.sources reported.now marks.now }
     ensures { IsFirstOther network.now (T.answers times.now) query.now.sources reported.now result }
 {
     if reported.has_no_walks() && are_all_marked(reported, marks) {
@@ -441,8 +393,7 @@ pub(crate) fn judge<J: Fn(&Query, &Reported, u32, &mut [Part]), T: TravelTimes>(
 ) -> Result<(), CheckFault>
     requires judging { JudgesBy J.Fn judging.now network.now (T.answers times.now)
         (T.classes times.now) }
-    requires task { IsTask network.now (T.classes times.now) query.now.sources }
-    requires formed { IsWellFormed network.now.nodes reported.now }
+    requires problem { MayJudge network.now (T.classes times.now) query.now.sources reported.now }
     requires parts { AreFewParts network.now parts.old }
     ensures verdict { IsVerdict network.now
         (T.answers times.now) query.now.sources reported.now result }

@@ -37,14 +37,13 @@ returns-in_err-read_problem g c =
     (fault_more (ProblemWrong roads.nodes query.sources next) (ReportWrong roads.nodes queries lines) fault (wrong_here roads.nodes c.args.queries.now place query c.loop-query-test.true c.query-item.is (ReportWrong roads.nodes queries lines) left.wrong) here))
     _ (g.R.Device.seen c.loop-query.device) _ c.args.lines.now c.loop-query.lines c.read_problem.new.lines _ c.loop-query.invariant.leads wrong)
 
-pub check_next-verdict-requires-clause-task : goal.check_next-verdict-requires-clause-task
-check_next-verdict-requires-clause-task g c =
-    task_of c.args.network.now (g.T.TravelTimes.classes c.args.times.now) c.query-item.result c.nodes-nodes.ensures.network (c.requires.checkable c.query-item.result (c.loop-query.query-index, (c.loop-query-test.true, c.query-item.is))).0
-
-pub check_next-verdict-requires-clause-formed : goal.check_next-verdict-requires-clause-formed
-check_next-verdict-requires-clause-formed g c =
+pub check_next-verdict-requires-clause-problem : goal.check_next-verdict-requires-clause-problem
+check_next-verdict-requires-clause-problem g c =
     let read = rw (c.nodes-nodes.ensures.nodes, c.sources.ensures.sources) at c.in_ok-read_problem.ensures.read in
-    formed_of (read.holds [] (λ ended. refl)) (ahead_in_order c.loop-query.lines (rest_of c.loop-query.lines ++ (read.got ++ [])) c.loop-query.invariant.sound)
+    record {
+      task = task_of c.args.network.now (g.T.TravelTimes.classes c.args.times.now) c.query-item.result c.nodes-nodes.ensures.network (c.requires.checkable c.query-item.result (c.loop-query.query-index, (c.loop-query-test.true, c.query-item.is))).0;
+      formed = formed_of (read.holds [] (λ ended. refl)) (ahead_in_order c.loop-query.lines (rest_of c.loop-query.lines ++ (read.got ++ [])) c.loop-query.invariant.sound);
+    }
 
 pub loop-query-init : goal.loop-query-init
 loop-query-init g c =

@@ -14,7 +14,7 @@ read links node is_node = link_read links node is_node.from_one is_node.to_last
 
 pub returns-then-arcs-links : goal.returns-then-arcs-links
 returns-then-arcs-links c =
-    let level = ap (λ (l : Link). l.level) (read c.args.links.now c.args.node c.requires.node) in
+    let level = ap (λ (l : Link). l.level) (read c.args.links.now c.args.node c.requires.walk.is_node) in
     record {
       same = (λ no. absurd (false≢true no), λ same. absurd (c.if-arcs-links.true (as_many c.args.links.now c.args.node c.args.arcs.now same ∙ sym level)));
       passed = λ no. absurd (false≢true no);
@@ -22,12 +22,12 @@ returns-then-arcs-links c =
 
 pub back-init : goal.back-init
 back-init c =
-    let level = ap (λ (l : Link). l.level) (read c.args.links.now c.args.node c.requires.node) in
+    let level = ap (λ (l : Link). l.level) (read c.args.links.now c.args.node c.requires.walk.is_node) in
     let size = c.if-arcs-links.false ∙ level in
     record {
-      is_node = c.requires.node;
+      is_node = c.requires.walk.is_node;
       level = sym size;
-      low = omega (arith, c.requires.level, size);
+      low = omega (arith, c.requires.walk.level, size);
       left = omega arith;
       same = starts c.args.links.now c.args.node c.args.arcs.now (length c.args.arcs.now) refl size;
       passed = c.requires.passed;
@@ -67,7 +67,7 @@ back-preserved c =
     let here = read links c.back.at inv.is_node in
     let arc = ap (λ (l : Link). l.arc) here in
     let from = ap (λ (l : Link). l.from) here in
-    let step = c.requires.followable c.back.at (omega (arith, inv.level, c.back-test.true)) (omega (arith, inv.level, inv.low)) in
+    let step = c.requires.walk.followable c.back.at (omega (arith, inv.level, c.back-test.true)) (omega (arith, inv.level, inv.low)) in
     let back = goes_back links c.back.at c.args.arcs.now c.back.left c.back-test.true inv.left (sym arc ∙ c.if-link-arcs.false) in
     let inside : c.back.left < length c.back.nodes = omega (arith, inv.left, inv.places) in
     let P : ℕ → Type 0 = λ n. take {A = ℕ} (c.back.left - 1) c.args.arcs.now ≡ walk_along links (c.back.left - 1) n in

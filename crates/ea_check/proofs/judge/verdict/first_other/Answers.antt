@@ -10,8 +10,7 @@ returns-in_err-other g c =
 
 pub loop-node-preserved : goal.loop-node-preserved
 loop-node-preserved g c = record {
-  walks = c.in_ok-other.ensures.walks;
-  passed = c.in_ok-other.ensures.passed;
+  compares = c.in_ok-other.ensures.compares;
   attained = attained_more c.args.network.now _ (g.T.TravelTimes.classes c.args.times.now) c.args.query.now.sources c.args.reported.now c.requires.task (g.met.T.TravelTimes.fifo c.args.times.now) c.requires.formed c.loop-node.node c.in_ok-other.other c.in_ok-other.ensures.other c.loop-node.invariant.attained;
   canonical = rw c.or-first.ensures (known_more c.args.network.now _ (g.T.TravelTimes.classes c.args.times.now) c.args.query.now.sources c.args.reported.now c.requires.task (g.met.T.TravelTimes.fifo c.args.times.now) c.requires.formed c.loop-node.node c.loop-node.first c.in_ok-other.other c.in_ok-other.ensures.other c.loop-node.invariant.canonical);
 }
@@ -21,8 +20,7 @@ returns g c = known_all c.args.network.now _ (g.T.TravelTimes.classes c.args.tim
 
 pub loop-node-init : goal.loop-node-init
 loop-node-init g c = record {
-  walks = c.reader.ensures;
-  passed = c.new.ensures c.args.links.now c.reader.result.arcs.items;
+  compares = record { left = c.reader.ensures; passed = c.new.ensures c.args.links.now c.reader.result.arcs.items };
   attained = λ before less. record {
     level = λ said is_said has_time. absurd (omega (arith, is_said.0, less));
     walk = λ said walk is_said writes. absurd (omega (arith, is_said.0, less));

@@ -18,8 +18,10 @@ loop-source-preserved g c =
     let now = c.lower_by_source-lowest.ensures in
     let time = reported_time c.args.reported.now in
     record {
-      lower = omega (arith, was.lower, now.lower);
-      found = still_found (Improves c.args.network.now (g.T.TravelTimes.answers c.args.times.now) c.args.query.now.sources time) c.loop-source.lowest _ c.args.above was.found now.found;
-      passed = still_passed c.sources-source-items.result.now time c.loop-source.source-index c.loop-source.lowest _ (record { node = 0; departure = 0 }) c.loop-source-test.true now.lower was.passed now.passed;
-      marks = now.marks;
+      finds = record {
+        lower = omega (arith, was.finds.lower, now.finds.lower);
+        found = still_found (Improves c.args.network.now (g.T.TravelTimes.answers c.args.times.now) c.args.query.now.sources time) c.loop-source.lowest _ c.args.above was.finds.found now.finds.found;
+        are_supported = now.finds.are_supported;
+      };
+      passed = still_passed c.sources-source-items.result.now time c.loop-source.source-index c.loop-source.lowest _ (record { node = 0; departure = 0 }) c.loop-source-test.true now.finds.lower was.passed now.passed;
     }
