@@ -11,7 +11,7 @@ use Rattle.ea_check.specs.Verdicts.{Said}
 abbrev pub IsAhead : ReportLines → ℕ → ℕ → List ℕ → ℕ → Type 0
 IsAhead lines first last times bytes = AreIn lines.way (rest_of lines) last times (record { first = first; bytes = bytes })
 
--- This many bytes of the block were read, this many lines, and none was found.
+-- This many bytes of the block were read, and this many lines.
 pub record HasPassed (bytes count : ℕ) (old new : ReportLines) : Type 0 where
   pub rest : rest_of new ≡ drop bytes (rest_of old)
   pub counted : new.count ≡ old.count + count

@@ -1,5 +1,5 @@
 //! How the lines on the nodes of one problem are kept.
-ghost use Rattle.std.specs.Prelude.{◌≡◌, ◌+◌, ◌-◌, ◌<◌, ◌≤◌, ◌^◌, ◌++◌, ◌∷◌, [], IfErr, None, OnOk, Some, length, replicate};
+ghost use Rattle.std.specs.Prelude.{◌≡◌, ◌+◌, ◌-◌, ◌<◌, ◌≤◌, ◌^◌, ◌++◌, ◌∷◌, [], MatchResult, None, OnOk, Some, length, replicate};
 ghost use Rattle.ea_bytes.specs.Text.{fields_of};
 ghost use Rattle.ea_check.specs.declared.fault.CheckFault.TheVariants.{OutOfMemory};
 ghost use Rattle.ea_check.specs.Runs.{numbers, saids};
@@ -89,9 +89,10 @@ impl Kept {
 /// Gives no walk to nodes up to this number of them.
 fn pad(walks: &mut Vec<Option<KeptWalk>>, len: usize) -> Result<(), CheckFault>
     requires { length walks.old.items ≤ len }
-    ensures padded { OnOk result (walks.new.items
-        ≡ walks.old.items ++ replicate (len - length walks.old.items) None) }
-    ensures refused { IfErr result (λ fault. fault ≡ OutOfMemory) }
+    ensures { MatchResult result
+        (λ _. walks.new.items
+        ≡ walks.old.items ++ replicate (len - length walks.old.items) None)
+        (λ fault. fault ≡ OutOfMemory) }
 {
     while walks.len() < len {
         walks.push(None)?;
@@ -138,9 +139,9 @@ fn part_to_keep(kept: &Kept, walk: WalkLine<'_>) -> (usize, usize)
 fn keep_walk(kept: &mut Kept, walk: WalkLine<'_>) -> Result<(), CheckFault>
     requires kept { AreKept kept.old }
     requires count { walk.count ≡ length (fields_of walk.arcs.now) }
-    ensures kept { OnOk result
-        (KeepsWalk walk.entry.line (arcs_said walk.entry) kept.old kept.new) }
-    ensures refused { IfErr result (λ fault. fault ≡ OutOfMemory) }
+    ensures { MatchResult result
+        (λ _. KeepsWalk walk.entry.line (arcs_said walk.entry) kept.old kept.new)
+        (λ fault. fault ≡ OutOfMemory) }
 {
     let (start, end) = part_to_keep(kept, walk);
     read_walk_arcs(walk.way, &walk.arcs[start..end], &mut kept.arcs)?;
@@ -160,8 +161,9 @@ fn keep_walk(kept: &mut Kept, walk: WalkLine<'_>) -> Result<(), CheckFault>
 
 /// Keeps the number and the time of the next node's `d` line.
 fn keep_time(kept: &mut Kept, line: u64, time: u64) -> Result<(), CheckFault>
-    ensures kept { OnOk result (KeepsTime line time kept.old kept.new) }
-    ensures refused { IfErr result (λ fault. fault ≡ OutOfMemory) }
+    ensures { MatchResult result
+        (λ _. KeepsTime line time kept.old kept.new)
+        (λ fault. fault ≡ OutOfMemory) }
 {
     kept.lines.push(line)?;
     kept.table.push(time)?;
@@ -171,8 +173,9 @@ fn keep_time(kept: &mut Kept, line: u64, time: u64) -> Result<(), CheckFault>
 /// Keeps this many numbers of lines, from this one on.
 fn keep_numbers(lines: &mut Vec<u64>, number: u64, count: usize) -> Result<(), CheckFault>
     requires { number + count < 2 ^ 64 }
-    ensures kept { OnOk result (lines.new.items ≡ lines.old.items ++ numbers number count) }
-    ensures refused { IfErr result (λ fault. fault ≡ OutOfMemory) }
+    ensures { MatchResult result
+        (λ _. lines.new.items ≡ lines.old.items ++ numbers number count)
+        (λ fault. fault ≡ OutOfMemory) }
 {
     for place in 0..count {
         lines.push(number + place as u64)?;
@@ -184,8 +187,9 @@ fn keep_numbers(lines: &mut Vec<u64>, number: u64, count: usize) -> Result<(), C
 pub(crate) fn keep_run(kept: &mut Kept, number: u64, times: &[u64]) -> Result<(), CheckFault>
     requires kept { AreKept kept.old }
     requires numbers { number + length times.now < 2 ^ 64 }
-    ensures kept { OnOk result (Keeps (said_kept kept.old ++ saids number times.now) kept.new) }
-    ensures refused { IfErr result (λ fault. fault ≡ OutOfMemory) }
+    ensures { MatchResult result
+        (λ _. Keeps (said_kept kept.old ++ saids number times.now) kept.new)
+        (λ fault. fault ≡ OutOfMemory) }
 {
     keep_numbers(&mut kept.lines, number, times.len())?;
     kept.table.extend_from_slice(times)?;
@@ -196,9 +200,10 @@ pub(crate) fn keep_run(kept: &mut Kept, number: u64, times: &[u64]) -> Result<()
 fn keep_both(kept: &mut Kept, line: u64, time: u64, walk: WalkLine<'_>) -> Result<(), CheckFault>
     requires kept { AreKept kept.old }
     requires count { walk.count ≡ length (fields_of walk.arcs.now) }
-    ensures kept { OnOk result (Keeps (said_kept kept.old ++ record
-        { line = line; time = time; walk = walk_of (Some walk.entry) } ∷ []) kept.new) }
-    ensures refused { IfErr result (λ fault. fault ≡ OutOfMemory) }
+    ensures { MatchResult result
+        (λ _. Keeps (said_kept kept.old ++ record
+        { line = line; time = time; walk = walk_of (Some walk.entry) } ∷ []) kept.new)
+        (λ fault. fault ≡ OutOfMemory) }
 {
     keep_walk(kept, walk)?;
     keep_time(kept, line, time)?;
@@ -209,8 +214,9 @@ fn keep_both(kept: &mut Kept, line: u64, time: u64, walk: WalkLine<'_>) -> Resul
 pub(crate) fn keep(kept: &mut Kept, said: SaidLine<'_>) -> Result<(), CheckFault>
     requires kept { AreKept kept.old }
     requires count { HasCount said.walk }
-    ensures kept { OnOk result (Keeps (said_kept kept.old ++ said_of said.entry ∷ []) kept.new) }
-    ensures refused { IfErr result (λ fault. fault ≡ OutOfMemory) }
+    ensures { MatchResult result
+        (λ _. Keeps (said_kept kept.old ++ said_of said.entry ∷ []) kept.new)
+        (λ fault. fault ≡ OutOfMemory) }
 {
     match said.walk {
         Some(walk) => keep_both(kept, said.line, said.time, walk)?,

@@ -1,5 +1,5 @@
 //! The lines of a problem.
-ghost use Rattle.std.specs.Prelude.{◌≡◌, ◌⊎◌, ◌+◌, ◌<◌, ◌≤◌, ◌^◌, ◌++◌, ◌∷◌, [], IfOk, MatchResult, None, OnOk, length};
+ghost use Rattle.std.specs.Prelude.{◌≡◌, ◌⊎◌, ◌+◌, ◌<◌, ◌≤◌, ◌^◌, ◌++◌, ◌∷◌, [], IfOk, MatchResult, None, length};
 ghost use Rattle.std.specs.List.{IsAmong};
 ghost use Rattle.ea_base.specs.declared.limits.TheConstants.{HORIZON};
 ghost use Rattle.ea_road.specs.declared.source.Source.{Source};
@@ -9,7 +9,7 @@ ghost use Rattle.ea_check.specs.Ahead.{ReadsAhead};
 ghost use Rattle.ea_check.specs.Runs.{saids};
 ghost use Rattle.ea_check.specs.Reads.{NodeWrong, NodesWrong, ProblemWrong, ReadsProblem, ReadsSources, SourcesWrong, WalkWrong};
 ghost use Rattle.ea_check.specs.Problems.{ReadsOneMore, ReadsWalkOf, ReadsAllNodes};
-ghost use Rattle.ea_check.specs.Stops.{IsStop};
+ghost use Rattle.ea_check.specs.Stops.{ReadsOrStops};
 ghost use Rattle.ea_check.specs.Streams.{IsSound, LeadsTo};
 
 use crate::fault::CheckFault;
@@ -31,12 +31,10 @@ fn read_source<R: ByteIn>(
 ) -> Result<(), Stop>
     requires departure { source.departure ≤ HORIZON }
     requires sound { IsSound lines.old }
-    ensures sound { OnOk result (IsSound lines.new) }
-    ensures read { MatchResult result
+    ensures { ReadsOrStops
         (λ _. LeadsTo (ReadsSources (source ∷ []))
         (R.seen device.old) lines.old (R.seen device.new) lines.new)
-        (IsStop (SourcesWrong (source ∷ []))
-        (R.seen device.old) lines.old (R.seen device.new) lines.new) }
+        (SourcesWrong (source ∷ [])) (R.seen device.old) lines.old (R.seen device.new) lines.new result }
 {
     let Some(line) = lines.line() else {
         return Err(Stop::Report(CheckFault::BadLine(0)));
@@ -57,12 +55,10 @@ fn read_sources<R: ByteIn>(
     requires departures { (source : Source) → IsAmong sources.now source
         → source.departure ≤ HORIZON }
     requires sound { IsSound lines.old }
-    ensures sound { OnOk result (IsSound lines.new) }
-    ensures read { MatchResult result
+    ensures { ReadsOrStops
         (λ _. LeadsTo (ReadsSources sources.now)
         (R.seen device.old) lines.old (R.seen device.new) lines.new)
-        (IsStop (SourcesWrong sources.now)
-        (R.seen device.old) lines.old (R.seen device.new) lines.new) }
+        (SourcesWrong sources.now) (R.seen device.old) lines.old (R.seen device.new) lines.new result }
 {
     for source in sources {
         read_source(lines, device, *source)?;
@@ -93,13 +89,11 @@ fn read_walk<R: ByteIn>(
     time: u64,
     reported: &mut Reported,
 ) -> Result<(), Stop>
-    requires sound { IsSound lines.old }
-    ensures sound { OnOk result (IsSound lines.new) }
-    ensures read { MatchResult result
+    requires { IsSound lines.old }
+    ensures { ReadsOrStops
         (λ _. ReadsWalkOf node number time reported.old reported.new
         (R.seen device.old) lines.old (R.seen device.new) lines.new)
-        (IsStop (WalkWrong node)
-        (R.seen device.old) lines.old (R.seen device.new) lines.new) }
+        (WalkWrong node) (R.seen device.old) lines.old (R.seen device.new) lines.new result }
 {
     let Some(line) = lines.line() else {
         return keep_time(number, time, reported);
@@ -132,13 +126,11 @@ fn read_node<R: ByteIn>(
     node: u32,
     reported: &mut Reported,
 ) -> Result<(), Stop>
-    requires sound { IsSound lines.old }
-    ensures sound { OnOk result (IsSound lines.new) }
-    ensures read { MatchResult result
+    requires { IsSound lines.old }
+    ensures { ReadsOrStops
         (λ _. ReadsOneMore node reported.old reported.new
         (R.seen device.old) lines.old (R.seen device.new) lines.new)
-        (IsStop (NodeWrong node)
-        (R.seen device.old) lines.old (R.seen device.new) lines.new) }
+        (NodeWrong node) (R.seen device.old) lines.old (R.seen device.new) lines.new result }
 {
     let Some(line) = lines.line() else {
         return Err(Stop::Report(CheckFault::BadLine(0)));
@@ -180,13 +172,11 @@ fn read_ahead<C: Team, R: ByteIn>(
 ) -> Result<u32, Stop>
     requires can { C.can_start team.now }
     requires sound { IsSound lines.old }
-    ensures sound { OnOk result (IsSound lines.new) }
     ensures few { IfOk result (λ count. count ≡ 0 ⊎ (node + count ≤ last)) }
-    ensures read { MatchResult result
+    ensures reads { ReadsOrStops
         (λ count. ReadsAhead node count reported.old reported.new
         (R.seen device.old) lines.old (R.seen device.new) lines.new)
-        (IsStop (NodeWrong node)
-        (R.seen device.old) lines.old (R.seen device.new) lines.new) }
+        (NodeWrong node) (R.seen device.old) lines.old (R.seen device.new) lines.new result }
 {
     if node >= last {
         return Ok(0);
@@ -220,12 +210,10 @@ fn read_nodes<C: Team, R: ByteIn>(
     requires can { C.can_start team.now }
     requires sound { IsSound lines.old }
     requires nodes { nodes + 1 < 2 ^ 32 }
-    ensures sound { OnOk result (IsSound lines.new) }
-    ensures read { MatchResult result
+    ensures { ReadsOrStops
         (λ _. ReadsAllNodes nodes reported.new
         (R.seen device.old) lines.old (R.seen device.new) lines.new)
-        (IsStop (NodesWrong 1 nodes)
-        (R.seen device.old) lines.old (R.seen device.new) lines.new) }
+        (NodesWrong 1 nodes) (R.seen device.old) lines.old (R.seen device.new) lines.new result }
 {
     reported.begin(nodes as usize)?;
     let mut node = 1;
@@ -253,12 +241,10 @@ pub(crate) fn read_problem<C: Team, R: ByteIn>(
         → source.departure ≤ HORIZON }
     requires sound { IsSound lines.old }
     requires nodes { nodes + 1 < 2 ^ 32 }
-    ensures sound { OnOk result (IsSound lines.new) }
-    ensures read { MatchResult result
+    ensures { ReadsOrStops
         (λ _. LeadsTo (ReadsProblem nodes sources.now reported.new)
         (R.seen device.old) lines.old (R.seen device.new) lines.new)
-        (IsStop (ProblemWrong nodes sources.now)
-        (R.seen device.old) lines.old (R.seen device.new) lines.new) }
+        (ProblemWrong nodes sources.now) (R.seen device.old) lines.old (R.seen device.new) lines.new result }
 {
     read_sources(lines, device, sources)?;
     read_nodes(team, lines, device, nodes, ahead, reported)

@@ -194,12 +194,8 @@ impl ReportLines {
         requires len { len ≤ past }
         requires within { past ≤ length (rest_of self.old) }
         ensures ready { IsReady self.new }
-        ensures rest { rest_of self.new ≡ drop past (rest_of self.old) }
+        ensures passed { HasPassed past 1 self.old self.new }
         ensures line { last_of self.new ≡ strip_carriage_return (take len (rest_of self.old)) }
-        ensures count { self.new.count ≡ self.old.count + 1 }
-        ensures blocks { self.new.blocks ≡ self.old.blocks }
-        ensures ended { self.new.ended ≡ self.old.ended }
-        ensures way { self.new.way ≡ self.old.way }
     {
         let rest = &self.block[self.start..];
         let text = without_return(&rest[..len]);

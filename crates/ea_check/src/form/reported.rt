@@ -1,5 +1,5 @@
 //! A report's lines on one problem.
-ghost use Rattle.std.specs.Prelude.{◌≡◌, ◌+◌, ◌<◌, ◌≤◌, ◌^◌, ◌++◌, ◌∷◌, [], ℕ, IfErr, IsTrue, None, OnOk, length};
+ghost use Rattle.std.specs.Prelude.{◌≡◌, ◌+◌, ◌<◌, ◌≤◌, ◌^◌, ◌++◌, ◌∷◌, [], ℕ, IfErr, IsTrue, MatchResult, None, length};
 ghost use Rattle.ea_road.specs.Roads.{IsNode};
 ghost use Rattle.ea_check.specs.declared.fault.CheckFault.TheVariants.{OutOfMemory};
 ghost use Rattle.ea_check.specs.Runs.{saids};
@@ -55,9 +55,10 @@ impl Reported {
 
     /// Keeps the lines of the next node. After a refusal no line is kept.
     pub(crate) fn push(&mut self, said: SaidLine<'_>) -> Result<(), CheckFault>
-        requires count { HasCount said.walk }
-        ensures kept { OnOk result (self.new ≡ self.old ++ said_of said.entry ∷ []) }
-        ensures refused { IfErr result (λ fault. fault ≡ OutOfMemory) }
+        requires { HasCount said.walk }
+        ensures { MatchResult result
+            (λ _. self.new ≡ self.old ++ said_of said.entry ∷ [])
+            (λ fault. fault ≡ OutOfMemory) }
     {
         if let Err(fault) = keep(&mut self.kept, said) {
             self.kept.clear();
@@ -70,8 +71,9 @@ impl Reported {
     /// After a refusal no line is kept.
     pub(crate) fn extend(&mut self, number: u64, times: &[u64]) -> Result<(), CheckFault>
         requires { number + length times.now < 2 ^ 64 }
-        ensures kept { OnOk result (self.new ≡ self.old ++ saids number times.now) }
-        ensures refused { IfErr result (λ fault. fault ≡ OutOfMemory) }
+        ensures { MatchResult result
+            (λ _. self.new ≡ self.old ++ saids number times.now)
+            (λ fault. fault ≡ OutOfMemory) }
     {
         if let Err(fault) = keep_run(&mut self.kept, number, times) {
             self.kept.clear();

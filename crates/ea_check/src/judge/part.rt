@@ -1,5 +1,5 @@
 //! Parts of a network's arcs, judged one beside another.
-ghost use Rattle.std.specs.Prelude.{◌≡◌, ◌⊎◌, ◌≤◌, ◌<◌, ◌++◌, ◌∷◌, [], ℕ, IfErr, IfOk, OnOk, length, slice_index_or};
+ghost use Rattle.std.specs.Prelude.{◌≡◌, ◌⊎◌, ◌≤◌, ◌<◌, ◌++◌, ◌∷◌, [], ℕ, MatchResult, length, slice_index_or};
 ghost use Rattle.ea_fork_join.specs.declared.TheConstants.{MOST_THREADS};
 ghost use Rattle.ea_check.specs.Parts.{AreGathered, AreParts, IsLowest};
 ghost use Rattle.ea_check.specs.Supported.{IsMarked};
@@ -35,10 +35,10 @@ fn push_part(
     arcs: ArcRange,
     parts: &mut Vec<Part>,
 ) -> Result<(), CheckFault>
-    ensures pushed { OnOk result ((part : PartType)
-        × (parts.new.items ≡ parts.old.items ++ part ∷ [])
-        × (part.arcs ≡ arcs) × (length part.marks.items ≡ network.now.nodes)) }
-    ensures refused { IfErr result (λ fault. fault ≡ OutOfMemory) }
+    ensures { MatchResult result
+        (λ _. (part : PartType) × (parts.new.items ≡ parts.old.items ++ part ∷ [])
+        × (part.arcs ≡ arcs) × (length part.marks.items ≡ network.now.nodes))
+        (λ fault. fault ≡ OutOfMemory) }
 {
     let marks = unmarked(alloc, network.nodes() as usize)?;
     parts.push(Part {
@@ -67,9 +67,9 @@ pub(crate) fn cut_arcs(
     most: usize,
 ) -> Result<Vec<Part>, CheckFault>
     requires { (1 ≤ most) × (most ≤ MOST_THREADS) }
-    ensures parts { IfOk result (λ parts. AreParts network.now parts.items) }
-    ensures few { IfOk result (λ parts. length parts.items ≤ most) }
-    ensures refused { IfErr result (λ fault. fault ≡ OutOfMemory) }
+    ensures { MatchResult result
+        (λ parts. AreParts network.now parts.items × (length parts.items ≤ most))
+        (λ fault. fault ≡ OutOfMemory) }
 {
     let mut parts = Vec::new(alloc);
     let arcs = network.arcs().len();

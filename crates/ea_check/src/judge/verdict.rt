@@ -283,7 +283,6 @@ fn lower_by_source<T: TravelTimes>(
     requires problem { MayMark network.now (T.answers times.now) (T.classes times.now)
         query.now.sources reported.now marks.old }
     requires source { IsAmong query.now.sources source }
-    requires node { IsNode (length reported.now) source.node }
     ensures finds { FindsLower network.now (T.answers times.now) query.now.sources
         reported.now lowest result marks.new }
     ensures passed { source.departure < reported_time reported.now source.node

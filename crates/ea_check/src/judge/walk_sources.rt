@@ -6,9 +6,8 @@ ghost use Rattle.ea_road.specs.declared.arc.Arc.{Arc};
 ghost use Rattle.ea_road.specs.declared.source.Source.{Source};
 ghost use Rattle.ea_road.specs.Arrivals.{Arrives, Attains};
 ghost use Rattle.ea_road.specs.Roads.{IsArc, IsNode};
-ghost use Rattle.ea_check.specs.Starts.{AreOrdered, Precedes};
+ghost use Rattle.ea_check.specs.Starts.{AreOrdered, IsBeside};
 ghost use Rattle.ea_check.specs.Verdicts.{IsTask};
-ghost use Rattle.ea_check.specs.declared.judge.walk_sources.Side.TheVariants.{Here, Before, Beyond};
 
 use ea_road::{Network, Query, Source, run_walk};
 use ea_travel_times::TravelTimes;
@@ -71,15 +70,8 @@ fn beside<T: TravelTimes>(
         → Arrives network.now (T.answers times.now) from departure arcs.now node time → from
         ≡ start }
     requires time { time ≤ HORIZON }
-    ensures here { result ≡ Here
-        → Arrives network.now (T.answers times.now) source.node
-        source.departure arcs.now node time }
-    ensures before { result ≡ Before → (other : Source) → Precedes other source
-        → Arrives network.now (T.answers times.now) other.node other.departure arcs.now node time
-        → ⊥ }
-    ensures beyond { result ≡ Beyond → (other : Source) → Precedes source other
-        → Arrives network.now (T.answers times.now) other.node other.departure arcs.now node time
-        → ⊥ }
+    ensures { IsBeside (λ from. Arrives network.now (T.answers times.now) from.node
+        from.departure arcs.now node time) source result }
 {
     if source.node < start {
         return Side::Before;

@@ -53,7 +53,7 @@ loop-query-init g c =
     record {
       done = refl;
       sound = c.requires.sound;
-      parts = (subst (AreParts roads) (sym c.as_mut_slice-parts.ensures.value) c.in_ok-cut.ensures.parts, omega (arith, ap (λ (ps : List Part). length ps) c.as_mut_slice-parts.ensures.value, c.in_ok-cut.ensures.few, c.size-2.ensures));
+      parts = (subst (AreParts roads) (sym c.as_mut_slice-parts.ensures.value) c.in_ok-cut.ensures.0, omega (arith, ap (λ (ps : List Part). length ps) c.as_mut_slice-parts.ensures.value, c.in_ok-cut.ensures.1, c.size-2.ensures));
       leads = lines_here (ProblemsLeft roads answers queries queries (Ok tt)) _ c.args.lines.now c.requires.sound.ready.room (λ text. record { wrong = λ number wrong. wrong; onward = λ result form checked. checked });
     }
 
@@ -142,4 +142,4 @@ returns-in_err-cut g c =
     let p = err_from_is_err_and c.from_residual-in_err-cut.result c.from_residual-in_err-cut.ensures.1 in
     let lines = c.args.lines.now in
     let seen = g.R.Device.seen c.args.device.now in
-    rw (p.1, p.2) (subst (λ (fault : CheckFault). JudgesTo (IsChecked c.args.network.now (g.T.TravelTimes.answers c.args.times.now) (sources_of c.args.queries.now)) seen lines seen lines (Err (Report fault))) (sym c.in_err-cut.ensures.refused) (lines_here (λ text next. Unit {0}) seen lines c.requires.sound.ready.room (λ text. tt)))
+    rw (p.1, p.2) (subst (λ (fault : CheckFault). JudgesTo (IsChecked c.args.network.now (g.T.TravelTimes.answers c.args.times.now) (sources_of c.args.queries.now)) seen lines seen lines (Err (Report fault))) (sym c.in_err-cut.ensures) (lines_here (λ text next. Unit {0}) seen lines c.requires.sound.ready.room (λ text. tt)))

@@ -12,32 +12,36 @@ use Rattle.ea_check.proofs.Stopping.{lines_here}
 use Rattle.ea_check.proofs.Streaming.{leads_on}
 use Rattle.ea_check.proofs.form.problem.read_ahead.Goals as goal
 
-pub returns-then-node-last-clause-read : goal.returns-then-node-last-clause-read
-returns-then-node-last-clause-read g c = none_ahead c.args.node c.args.reported.now _ c.args.lines.now c.requires.sound.ready.room
+pub returns-then-node-last-clause-reads : goal.returns-then-node-last-clause-reads
+returns-then-node-last-clause-reads g c =
+    record { sound = c.requires.sound; read = none_ahead c.args.node c.args.reported.now _ c.args.lines.now c.requires.sound.ready.room }
 
-pub returns-in_default-clause-read : goal.returns-in_default-clause-read
-returns-in_default-clause-read g c = none_ahead c.args.node c.args.reported.now _ c.args.lines.now c.requires.sound.ready.room
+pub returns-in_default-clause-reads : goal.returns-in_default-clause-reads
+returns-in_default-clause-reads g c =
+    record { sound = c.requires.sound; read = none_ahead c.args.node c.args.reported.now _ c.args.lines.now c.requires.sound.ready.room }
 
-pub returns-in_default-line-clause-read : goal.returns-in_default-line-clause-read
-returns-in_default-line-clause-read g c = none_ahead c.args.node c.args.reported.now _ c.args.lines.now c.requires.sound.ready.room
+pub returns-in_default-line-clause-reads : goal.returns-in_default-line-clause-reads
+returns-in_default-line-clause-reads g c =
+    record { sound = c.requires.sound; read = none_ahead c.args.node c.args.reported.now _ c.args.lines.now c.requires.sound.ready.room }
 
-pub returns-in_default-time_said-clause-read : goal.returns-in_default-time_said-clause-read
-returns-in_default-time_said-clause-read g c = none_ahead c.args.node c.args.reported.now _ c.args.lines.now c.requires.sound.ready.room
+pub returns-in_default-time_said-clause-reads : goal.returns-in_default-time_said-clause-reads
+returns-in_default-time_said-clause-reads g c =
+    record { sound = c.requires.sound; read = none_ahead c.args.node c.args.reported.now _ c.args.lines.now c.requires.sound.ready.room }
 
-pub returns-in_err-keep_times-clause-read : goal.returns-in_err-keep_times-clause-read
-returns-in_err-keep_times-clause-read g c =
+pub returns-in_err-keep_times-clause-reads : goal.returns-in_err-keep_times-clause-reads
+returns-in_err-keep_times-clause-reads g c =
     let lines = c.args.lines.now in
     let p = err_from_is_err_and c.from_residual.result c.from_residual.ensures.1 in
-    rw (p.1, p.2) (subst (λ (s : Stop). IsStop (NodeWrong c.args.node) (g.R.Device.seen c.args.device.now) lines (g.R.Device.seen c.args.device.now) lines s) (sym c.in_err-keep_times.ensures) (lines_here (λ text next. Unit {0}) _ lines c.requires.sound.ready.room (λ text. tt)))
+    rw (p.1, p.2) (record { sound = tt; read = subst (λ (s : Stop). IsStop (NodeWrong c.args.node) (g.R.Device.seen c.args.device.now) lines (g.R.Device.seen c.args.device.now) lines s) (sym c.in_err-keep_times.ensures) (lines_here (λ text next. Unit {0}) _ lines c.requires.sound.ready.room (λ text. tt)) })
 
-pub returns-in_err-find-clause-read : goal.returns-in_err-find-clause-read
-returns-in_err-find-clause-read g c =
+pub returns-in_err-find-clause-reads : goal.returns-in_err-find-clause-reads
+returns-in_err-find-clause-reads g c =
     let p = err_from_is_err_and c.from_residual-in_err-find.result c.from_residual-in_err-find.ensures.1 in
     let passed = c.pass.ensures.passed in
-    rw (p.1, p.2) (subst (λ (b : Blocks). StopsTaking (g.R.Device.seen c.args.device.now) b (g.R.Device.seen c.find.new.device) c.in_err-find.field-0.0) passed.blocks c.in_err-find.ensures.fault)
+    rw (p.1, p.2) (record { sound = tt; read = subst (λ (b : Blocks). StopsTaking (g.R.Device.seen c.args.device.now) b (g.R.Device.seen c.find.new.device) c.in_err-find.field-0.0) passed.blocks c.in_err-find.ensures.fault })
 
-pub returns-clause-read : goal.returns-clause-read
-returns-clause-read g c =
+pub returns-clause-reads : goal.returns-clause-reads
+returns-clause-reads g c =
     let before = c.args.lines.now in
     let mid = c.pass.new.self in
     let after = c.find.new.self in
@@ -50,12 +54,15 @@ returns-clause-read g c =
     let time = c.in-Some-time_said.time in
     let said = saids line.number (time ∷ times) in
     record {
-      said = said;
-      grown = c.in_ok-keep_times.ensures ∙ ap (λ (ts : List ℕ). c.args.reported.now ++ saids line.number (time ∷ ts)) c.deref.ensures.value;
-      many = omega (arith, saids_length line.number (time ∷ times), c.len-2.ensures, c.look_ahead.new.ahead.times.ok.0);
-      read = leads_on (Passes before.way is.run.lines) (FindsLine mid after) (λ text next. ReadsNodes node said (ahead before text) (ahead after next))
-          (λ text middle next passes found. reads_ahead before mid after (line_of line) node time times is.run.lines c.in-Some-line.ensures c.in-Some-time_said.ensures is.run.say passed.way (passed.counted ∙ ap (λ n. before.count + n) size) text middle next passes found) _ (g.R.Device.seen c.args.device.now) (g.R.Device.seen c.find.new.device) before mid after
-          (passes_ahead _ before mid (node + 1) c.args.last times c.in-Some.bytes _ c.pass.ensures.ready.room is passed) c.in_ok-find.ensures.found;
+      sound = c.in_ok-find.ensures.sound;
+      read = record {
+        said = said;
+        grown = c.in_ok-keep_times.ensures ∙ ap (λ (ts : List ℕ). c.args.reported.now ++ saids line.number (time ∷ ts)) c.deref.ensures.value;
+        many = omega (arith, saids_length line.number (time ∷ times), c.len-2.ensures, c.look_ahead.new.ahead.times.ok.0);
+        read = leads_on (Passes before.way is.run.lines) (FindsLine mid after) (λ text next. ReadsNodes node said (ahead before text) (ahead after next))
+            (λ text middle next passes found. reads_ahead before mid after (line_of line) node time times is.run.lines c.in-Some-line.ensures c.in-Some-time_said.ensures is.run.say passed.way (passed.counted ∙ ap (λ n. before.count + n) size) text middle next passes found) _ (g.R.Device.seen c.args.device.now) (g.R.Device.seen c.find.new.device) before mid after
+            (passes_ahead _ before mid (node + 1) c.args.last times c.in-Some.bytes _ c.pass.ensures.ready.room is passed) c.in_ok-find.ensures.found;
+      };
     }
 
 pub keep_times-requires : goal.keep_times-requires

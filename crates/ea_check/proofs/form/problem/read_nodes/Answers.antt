@@ -6,35 +6,41 @@ use Rattle.ea_check.proofs.Keeping.{NodesLeft, all_nodes, node_more, node_wrong,
 use Rattle.ea_check.proofs.Stopping.{lines_also, stop_behind, then_lines}
 use Rattle.ea_check.proofs.form.problem.read_nodes.Goals as goal
 
-pub returns-in_err-count-clause-read : goal.returns-in_err-count-clause-read
-returns-in_err-count-clause-read g c =
+pub returns-in_err-count : goal.returns-in_err-count
+returns-in_err-count g c =
     let p = err_from_is_err_and c.from_residual-in_err-count.result c.from_residual-in_err-count.ensures.1 in
     let node = c.nodes.node in
     let nodes = c.args.nodes in
-    rw (p.1, p.2) (stop_behind (NodesLeft node nodes c.nodes.reported) (NodeWrong node) (NodesWrong 1 nodes)
-    (λ lines next left number wrong. node_wrong node nodes c.nodes.reported lines next left (omega (arith, c.nodes-test.true)) number wrong) _ (g.R.Device.seen c.nodes.device) _ c.args.lines.now c.nodes.lines c.read_ahead.new.lines _ c.nodes.invariant.leads c.in_err-count.ensures.read)
+    rw (p.1, p.2) (record {
+      sound = tt;
+      read = stop_behind (NodesLeft node nodes c.nodes.reported) (NodeWrong node) (NodesWrong 1 nodes)
+          (λ lines next left number wrong. node_wrong node nodes c.nodes.reported lines next left (omega (arith, c.nodes-test.true)) number wrong) _ (g.R.Device.seen c.nodes.device) _ c.args.lines.now c.nodes.lines c.read_ahead.new.lines _ c.nodes.invariant.leads c.in_err-count.ensures.reads.read;
+    })
 
-pub returns-in_err-read_node-clause-read : goal.returns-in_err-read_node-clause-read
-returns-in_err-read_node-clause-read g c =
+pub returns-in_err-read_node : goal.returns-in_err-read_node
+returns-in_err-read_node g c =
     let p = err_from_is_err_and c.from_residual-in_err-read_node.result c.from_residual-in_err-read_node.ensures.1 in
     let node = c.nodes.node in
     let nodes = c.args.nodes in
     let kept = c.nodes.reported in
-    let ahead = c.in_ok-count.ensures.read in
+    let ahead = c.in_ok-count.ensures.reads.read in
     let more = c.read_ahead.new.reported in
     let here = node + c.in_ok-count.count in
     let low : here ≤ nodes = omega (arith, c.in_ok-count.ensures.few, c.nodes-test.true) in
     let left = then_lines (NodesLeft node nodes kept) (ReadsNodes node ahead.said) (NodesLeft here nodes more)
     (λ lines middle next left reads. nodes_ahead node nodes c.in_ok-count.count kept more ahead.said lines middle next ahead.grown ahead.many left reads) _ (g.R.Device.seen c.nodes.device) _ c.args.lines.now c.nodes.lines c.read_ahead.new.lines c.nodes.invariant.leads ahead.read in
-    rw (p.1, p.2) (stop_behind (NodesLeft here nodes more) (NodeWrong here) (NodesWrong 1 nodes)
-    (λ lines next left number wrong. node_wrong here nodes more lines next left low number wrong) _ (g.R.Device.seen c.read_ahead.new.device) _ c.args.lines.now c.read_ahead.new.lines c.read_node.new.lines _ left c.in_err-read_node.ensures.read)
+    rw (p.1, p.2) (record {
+      sound = tt;
+      read = stop_behind (NodesLeft here nodes more) (NodeWrong here) (NodesWrong 1 nodes)
+          (λ lines next left number wrong. node_wrong here nodes more lines next left low number wrong) _ (g.R.Device.seen c.read_ahead.new.device) _ c.args.lines.now c.read_ahead.new.lines c.read_node.new.lines _ left c.in_err-read_node.ensures.read;
+    })
 
 pub nodes-preserved : goal.nodes-preserved
 nodes-preserved g c =
     let node = c.nodes.node in
     let nodes = c.args.nodes in
     let kept = c.nodes.reported in
-    let ahead = c.in_ok-count.ensures.read in
+    let ahead = c.in_ok-count.ensures.reads.read in
     let more = c.read_ahead.new.reported in
     let here = node + c.in_ok-count.count in
     let read = c.in_ok-read_node.ensures.read in
@@ -51,12 +57,15 @@ nodes-preserved g c =
           (λ lines middle next left one. subst (λ n. NodesLeft n nodes last lines next) next_node (node_more here nodes more last read.said lines middle next left read.grown one)) _ (g.R.Device.seen c.read_ahead.new.device) _ c.args.lines.now c.read_ahead.new.lines c.read_node.new.lines left read.read;
     }
 
-pub returns-clause-read : goal.returns-clause-read
-returns-clause-read g c =
+pub returns : goal.returns
+returns g c =
     let node = c.nodes.node in
     let nodes = c.args.nodes in
     let kept = c.nodes.reported in
     record {
-      each_node = omega (arith, c.nodes.invariant.each_node, c.nodes.invariant.few, c.nodes-test.false);
-      read = lines_also (NodesLeft node nodes kept) (ReadsNodes 1 kept) (λ lines next left. all_nodes node nodes kept lines next left) _ _ c.args.lines.now c.nodes.lines c.nodes.invariant.leads;
+      sound = c.nodes.invariant.sound;
+      read = record {
+        each_node = omega (arith, c.nodes.invariant.each_node, c.nodes.invariant.few, c.nodes-test.false);
+        read = lines_also (NodesLeft node nodes kept) (ReadsNodes 1 kept) (λ lines next left. all_nodes node nodes kept lines next left) _ _ c.args.lines.now c.nodes.lines c.nodes.invariant.leads;
+      };
     }

@@ -7,13 +7,16 @@ use Rattle.ea_check.proofs.Sourced.{item_among}
 use Rattle.ea_check.proofs.Stopping.{stop_behind, then_lines}
 use Rattle.ea_check.proofs.form.problem.read_sources.Goals as goal
 
-pub returns-in_err-read_source-clause-read : goal.returns-in_err-read_source-clause-read
-returns-in_err-read_source-clause-read g c =
+pub returns-in_err-read_source : goal.returns-in_err-read_source
+returns-in_err-read_source g c =
     let p = err_from_is_err_and c.from_residual.result c.from_residual.ensures.1 in
     let sources = c.args.sources.now in
     let place = c.loop-source.source-index in
-    rw (p.1, p.2) (stop_behind (SourcesLeft sources (drop {A = Source} place sources)) (SourcesWrong (get_or sources place no_source ∷ [])) (SourcesWrong sources)
-    (λ lines next left number wrong. source_wrong sources place c.loop-source-test.true lines next left number wrong) _ (g.R.Device.seen c.loop-source.device) _ c.args.lines.now c.loop-source.lines c.read_source.new.lines _ c.loop-source.invariant.leads c.in_err-read_source.ensures.read)
+    rw (p.1, p.2) (record {
+      sound = tt;
+      read = stop_behind (SourcesLeft sources (drop {A = Source} place sources)) (SourcesWrong (get_or sources place no_source ∷ [])) (SourcesWrong sources)
+          (λ lines next left number wrong. source_wrong sources place c.loop-source-test.true lines next left number wrong) _ (g.R.Device.seen c.loop-source.device) _ c.args.lines.now c.loop-source.lines c.read_source.new.lines _ c.loop-source.invariant.leads c.in_err-read_source.ensures.read;
+    })
 
 pub loop-source-preserved : goal.loop-source-preserved
 loop-source-preserved g c =

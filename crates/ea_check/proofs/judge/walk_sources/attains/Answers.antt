@@ -31,7 +31,7 @@ halves-preserved-in-Before g c =
     record {
       low = omega (arith, c.halves-test.true);
       high = c.halves.invariant.high;
-      none = none_before c.args.query.now.sources c.args.ordered.now c.halves.low c.halves.high (c.halves.low + (c.halves.high - c.halves.low) / 2) none (λ source. Arrives c.args.network.now (g.T.TravelTimes.answers c.args.times.now) source.node source.departure c.args.arcs.now c.args.node c.args.time) c.requires.ordered (omega arith) c.halves.invariant.none (c.in-Before.ensures.before refl);
+      none = none_before c.args.query.now.sources c.args.ordered.now c.halves.low c.halves.high (c.halves.low + (c.halves.high - c.halves.low) / 2) none (λ source. Arrives c.args.network.now (g.T.TravelTimes.answers c.args.times.now) source.node source.departure c.args.arcs.now c.args.node c.args.time) c.requires.ordered (omega arith) c.halves.invariant.none (c.in-Before.ensures);
     }
 
 pub halves-preserved : goal.halves-preserved
@@ -41,7 +41,7 @@ halves-preserved g c =
     record {
       low = omega arith;
       high = omega arith;
-      none = none_behind c.args.query.now.sources c.args.ordered.now c.halves.low c.halves.high (c.halves.low + (c.halves.high - c.halves.low) / 2) none (λ source. Arrives c.args.network.now (g.T.TravelTimes.answers c.args.times.now) source.node source.departure c.args.arcs.now c.args.node c.args.time) c.requires.ordered c.halves.invariant.none (c.in-Beyond.ensures.beyond refl);
+      none = none_behind c.args.query.now.sources c.args.ordered.now c.halves.low c.halves.high (c.halves.low + (c.halves.high - c.halves.low) / 2) none (λ source. Arrives c.args.network.now (g.T.TravelTimes.answers c.args.times.now) source.node source.departure c.args.arcs.now c.args.node c.args.time) c.requires.ordered c.halves.invariant.none (c.in-Beyond.ensures);
     }
 
 pub returns-in-Here : goal.returns-in-Here
@@ -51,7 +51,7 @@ returns-in-Here g c =
       λ yes. record {
         source = get_or c.args.ordered.now middle none;
         among = among_ordered c.args.query.now.sources c.args.ordered.now middle none c.requires.ordered (omega (arith, c.halves-test.true));
-        arrives = c.in-Here.ensures.here refl;
+        arrives = c.in-Here.ensures;
       },
       λ attains. refl,
     )

@@ -11,8 +11,8 @@ returns-in-Some-clause-taken g c =
     let line = last_of c.take.new.self in
     let text = rest_of c.pulls.self in
     leads_same (TakesLine true line) _ _ _ _ c.pulls.self _ c.pulls.invariant.leads
-    (leads_here (TakesLine true line) _ c.pulls.self c.take.new.self took.ready.room took.blocks took.ended
-    (λ later none. takes_first text (rest_of c.take.new.self) line c.rest.result.now c.in-Some.end c.rest.ensures c.in-Some.ensures.1 took.rest took.line later))
+    (leads_here (TakesLine true line) _ c.pulls.self c.take.new.self took.ready.room took.passed.blocks took.passed.ended
+    (λ later none. takes_first text (rest_of c.take.new.self) line c.rest.result.now c.in-Some.end c.rest.ensures c.in-Some.ensures.1 took.passed.rest took.line later))
 
 size_falls : (start block_start past left new_left : ℕ) (block new_block : List ℕ) → start ≤ length block → block_start ≤ length new_block → 0 < past → past ≤ length (drop start block) → drop block_start new_block ≡ drop past (drop start block) → new_left ≡ left → (length new_block - block_start) + new_left < (length block - start) + left
 size_falls start block_start past left new_left block new_block inside new_inside some within rest same =
@@ -21,8 +21,8 @@ size_falls start block_start past left new_left block new_block inside new_insid
 pub returns-in-Some-clause-some : goal.returns-in-Some-clause-some
 returns-in-Some-clause-some g c =
     let took = c.take.ensures in λ is. (
-      took.count ∙ ap (λ n. n + 1) c.pulls.invariant.count,
-      omega (arith, c.pulls.invariant.size, size_falls c.pulls.self.start c.take.new.self.start (c.in-Some.end + 1) c.pulls.self.blocks.left c.take.new.self.blocks.left c.pulls.self.block.items c.take.new.self.block.items c.pulls.invariant.ready.inside took.ready.inside (omega arith) (omega (arith, c.in-Some.ensures.0, ap (λ (l : List ℕ). length l) c.rest.ensures)) took.rest (ap (λ (b : Blocks). b.left) took.blocks)),
+      took.passed.counted ∙ ap (λ n. n + 1) c.pulls.invariant.count,
+      omega (arith, c.pulls.invariant.size, size_falls c.pulls.self.start c.take.new.self.start (c.in-Some.end + 1) c.pulls.self.blocks.left c.take.new.self.blocks.left c.pulls.self.block.items c.take.new.self.block.items c.pulls.invariant.ready.inside took.ready.inside (omega arith) (omega (arith, c.in-Some.ensures.0, ap (λ (l : List ℕ). length l) c.rest.ensures)) took.passed.rest (ap (λ (b : Blocks). b.left) took.passed.blocks)),
     )
 
 pub pulls-smaller : goal.pulls-smaller
@@ -50,5 +50,5 @@ returns-clause-taken g c =
     let line = last_of c.take-2.new.self in
     let text = rest_of c.pulls.self in
     leads_same (TakesLine true line) _ _ _ _ c.pulls.self _ c.pulls.invariant.leads
-    (leads_here (TakesLine true line) _ c.pulls.self c.take-2.new.self took.ready.room took.blocks took.ended
-    (λ later none. takes_last text (rest_of c.take-2.new.self) line c.rest.result.now (length c.rest-left.result.now) c.rest.ensures c.in_default.ensures (omega (arith, c.if-left-eq0.false)) (ap (λ (l : List ℕ). length l) c.rest-left.ensures) took.rest took.line later (none (took.ended ∙ c.if-self.true))))
+    (leads_here (TakesLine true line) _ c.pulls.self c.take-2.new.self took.ready.room took.passed.blocks took.passed.ended
+    (λ later none. takes_last text (rest_of c.take-2.new.self) line c.rest.result.now (length c.rest-left.result.now) c.rest.ensures c.in_default.ensures (omega (arith, c.if-left-eq0.false)) (ap (λ (l : List ℕ). length l) c.rest-left.ensures) took.passed.rest took.line later (none (took.passed.ended ∙ c.if-self.true))))
