@@ -1,5 +1,5 @@
 -- Runs of plain lines that are read one beside another.
-use Rattle.std.proofs.Common.{◌≡◌, ◌∙◌, refl, ℕ, ◌+◌, ◌-◌, ◌<◌, ◌≤◌, List, [], ◌∷◌, ◌++◌, length, take, drop, arith, ap, sym, subst, append_assoc, length-append, length-drop, length-take}
+use Rattle.std.proofs.Common.{◌≡◌, ◌∙◌, refl, ℕ, ◌+◌, ◌-◌, ◌≤◌, List, [], ◌∷◌, ◌++◌, length, take, drop, arith, ap, sym, subst, append_assoc, length-append, length-drop, length-take}
 use Rattle.std.proofs.lemmas.List.{drop-append-le, take-append-drop, take-take}
 use Rattle.std.specs.Prelude.{Option, Some, None, IfSome}
 use Rattle.ea_base.specs.declared.direction.Direction.{Direction}
@@ -54,7 +54,7 @@ joined way text last before found times more new time size node from was are tak
     }
 
 -- What was found at the front of a text.
-pub found_near : (way : Direction) (text : List ℕ) (near first last : ℕ) (times : List ℕ) (found : Option ℕ) → IfSome found (λ bytes. bytes < length (take near text)) → IfSome found (λ bytes. IsRun way first times (take bytes (take near text))) → IfSome found (λ bytes. BeginsWithNoWalk way (drop bytes (take near text)))
-    → IfSome found (λ _. first + length times ≤ last) → IfSome found (λ bytes. AreIn way text last times (record { first = first; bytes = bytes }))
-found_near way text near first last times None inside run quiet few = tt
-found_near way text near first last times (Some bytes) inside run quiet few = are_in_all way text near last times (record { first = first; bytes = bytes }) (record { inside = inside; run = run; quiet = quiet; few = few })
+pub found_near : (way : Direction) (text : List ℕ) (near first last : ℕ) (times : List ℕ) (found : Option ℕ) → IfSome found (λ bytes. AreIn way (take near text) last times (record { first = first; bytes = bytes }))
+    → IfSome found (λ bytes. AreIn way text last times (record { first = first; bytes = bytes }))
+found_near way text near first last times None read = tt
+found_near way text near first last times (Some bytes) read = are_in_all way text near last times (record { first = first; bytes = bytes }) read

@@ -8,6 +8,18 @@ use Rattle.ea_check.specs.Form.{arcs_of, told_walk}
 abbrev pub part : List ℕ → ℕ → ℕ → List ℕ
 part text start end = take (end - start) (drop start text)
 
+-- Two texts have the same first bytes, this many.
+pub record SharesFront (text other : List ℕ) (len : ℕ) : Type 0 where
+  pub in_text : len ≤ length text
+  pub in_other : len ≤ length other
+  pub same : take len text ≡ take len other
+
+-- Two texts have the same last bytes, this many.
+pub record SharesBack (text other : List ℕ) (len : ℕ) : Type 0 where
+  pub in_text : len ≤ length text
+  pub in_other : len ≤ length other
+  pub same : drop (length text - len) text ≡ drop (length other - len) other
+
 -- The first bytes of a text, if any, end with a blank.
 abbrev pub EndsBlank : List ℕ → ℕ → Type 0
 EndsBlank text len = (len ≡ 0) ⊎ ((0 < len) × (is_blank (slice_index text (len - 1)) ≡ true))

@@ -30,6 +30,10 @@ rest_of lines = drop lines.start lines.block.items
 abbrev pub size_left : ReportLines → ℕ
 size_left lines = (length lines.block.items - lines.start) + lines.blocks.left
 
+-- The most calls of the device that give further bytes or its end.
+abbrev pub calls_left : ReportLines → ℕ
+calls_left lines = lines.blocks.left + (if lines.ended then 0 else 1)
+
 abbrev pub line_of : SpokenLine → Line
 line_of line = record { number = line.number; fields = fields_of line.text.now; way = line.way }
 
@@ -95,6 +99,12 @@ pub record Leads (Holds : List ℕ → List ℕ → Type 0) (old : Seen) (before
 -- The same of the lines that were left.
 abbrev pub LeadsTo : (List Line → List Line → Type 0) → Seen → ReportLines → Seen → ReportLines → Type 0
 LeadsTo Holds old before new after = Leads (λ text next. Holds (ahead before text) (ahead after next)) old before new after
+
+-- Bytes were taken from the device, and none was read.
+pub record GetsMore (old : Seen) (before : ReportLines) (new : Seen) (after : ReportLines) : Type 0 where
+  pub ready : IsReady after
+  pub leads : Leads (λ text next. text ≡ next) old before new after
+  pub size : size_left after ≡ size_left before
 
 -- A text begins with a line, whatever follows the text.
 abbrev pub BeginsWithLine : List ℕ → List ℕ → List ℕ → Type 0

@@ -1,8 +1,9 @@
 //! The `d` lines of nodes in their plain form, one after another: a word, single spaces, digits, a line feed
 //! and nothing else.
-ghost use Rattle.std.specs.Prelude.{◌≡◌, ◌+◌, ◌<◌, ◌≤◌, ◌∷◌, ◌++◌, IfSome, drop, length, take};
+ghost use Rattle.std.specs.Prelude.{◌≡◌, ◌∷◌, ◌++◌, IfSome};
 ghost use Rattle.ea_check.specs.Form.{none_word};
-ghost use Rattle.ea_check.specs.Runs.{BeginsWithNoWalk, IsRun, NumberThen, TakesTime, TimeThen};
+ghost use Rattle.ea_check.specs.Pieces.{AreIn};
+ghost use Rattle.ea_check.specs.Runs.{NumberThen, TakesTime, TimeThen};
 
 use crate::form::line_form::told;
 use ea_base::{Direction, HORIZON, MOST_NODES};
@@ -116,10 +117,8 @@ pub(crate) fn take_times(
     last: u32,
     times: &mut Vec<u64>,
 ) -> Option<usize>
-    ensures inside { IfSome result (λ bytes. bytes < length text.now) }
-    ensures run { IfSome result (λ bytes. IsRun way first times.new.items (take bytes text.now)) }
-    ensures quiet { IfSome result (λ bytes. BeginsWithNoWalk way (drop bytes text.now)) }
-    ensures few { IfSome result (λ _. first + length times.new.items ≤ last) }
+    ensures { IfSome result (λ bytes. AreIn way text.now last times.new.items
+        (record { first = first; bytes = bytes })) }
 {
     times.clear();
     if first > last {

@@ -4,7 +4,7 @@ ghost use Rattle.std.specs.Str.Lines.{strip_carriage_return};
 ghost use Rattle.ea_blocks.specs.Taking.{HasRoom, IsStopped, StopsTaking};
 ghost use Rattle.ea_bytes.specs.Text.{fields_of, is_silent, lines_of};
 ghost use Rattle.ea_check.specs.Ahead.{HasPassed, IsAhead};
-ghost use Rattle.ea_check.specs.Streams.{Begins, BeginsWithLine, FindsLine, HasLast, IsReady, IsSound, IsUnread, Leads, Skips, TakesLine, behind, last_of, line_of, most_bytes, rest_of, size_left, spoken};
+ghost use Rattle.ea_check.specs.Streams.{Begins, BeginsWithLine, FindsLine, GetsMore, HasLast, IsReady, IsSound, IsUnread, Leads, Skips, TakesLine, calls_left, last_of, line_of, most_bytes, rest_of, size_left, spoken};
 
 use crate::form::ahead::{Ahead, take_ahead};
 use crate::team::Team;
@@ -159,15 +159,10 @@ impl ReportLines {
     fn refill<R: ByteIn>(&mut self, device: &mut R) -> Result<(), ReadFault>
         requires ready { IsReady self.old }
         requires more { self.old.ended ≡ false }
-        ensures ready { OnOk result (IsReady self.new) }
-        ensures leads { OnOk result (Leads (λ text next. text ≡ next)
-            (R.seen device.old) self.old (R.seen device.new) self.new) }
-        ensures count { self.new.count ≡ self.old.count }
-        ensures way { self.new.way ≡ self.old.way }
-        ensures size { OnOk result (size_left self.new ≡ size_left self.old) }
-        ensures less { OnOk result (self.new.blocks.left ≤ self.old.blocks.left) }
-        ensures on { OnOk result
-            (self.new.ended ≡ false → self.new.blocks.left < self.old.blocks.left) }
+        ensures gets { OnOk result
+            (GetsMore (R.seen device.old) self.old (R.seen device.new) self.new) }
+        ensures fewer { OnOk result (calls_left self.new < calls_left self.old) }
+        ensures kept { (self.new.count ≡ self.old.count) × (self.new.way ≡ self.old.way) }
         ensures fault { IfErr result
             (StopsTaking (R.seen device.old) self.old.blocks (R.seen device.new)) }
     {
@@ -190,9 +185,7 @@ impl ReportLines {
     /// Reads a line of `len` bytes, and continues after `past` bytes.
     fn take(&mut self, len: usize, past: usize)
         requires ready { IsReady self.old }
-        requires some { 0 < past }
-        requires len { len ≤ past }
-        requires within { past ≤ length (rest_of self.old) }
+        requires within { (0 < past) × (len ≤ past) × (past ≤ length (rest_of self.old)) }
         ensures ready { IsReady self.new }
         ensures passed { HasPassed past 1 self.old self.new }
         ensures line { last_of self.new ≡ strip_carriage_return (take len (rest_of self.old)) }
@@ -257,8 +250,7 @@ impl ReportLines {
     /// Passes lines: this many bytes of the block that were not read.
     pub(crate) fn pass(&mut self, bytes: usize, lines: usize)
         requires ready { IsReady self.old }
-        requires within { bytes ≤ length (rest_of self.old) }
-        requires lines { lines ≤ bytes }
+        requires within { (lines ≤ bytes) × (bytes ≤ length (rest_of self.old)) }
         ensures ready { IsReady self.new }
         ensures passed { HasPassed bytes lines self.old self.new }
     {

@@ -1,6 +1,6 @@
 //! What a walk's text shares with that of another walk.
-ghost use Rattle.std.specs.Prelude.{◌≡◌, ◌-◌, ◌≤◌, drop, length, take};
-ghost use Rattle.ea_check.specs.Shared.{BeginsBlank, EndsBlank, IsOwnPart, arcs_in};
+ghost use Rattle.std.specs.Prelude.{◌≤◌, length};
+ghost use Rattle.ea_check.specs.Shared.{BeginsBlank, EndsBlank, IsOwnPart, SharesBack, SharesFront, arcs_in};
 ghost use Rattle.ea_check.specs.declared.form.shared_text.TheConstants.{PIECE};
 
 use ea_base::Direction;
@@ -11,9 +11,7 @@ const PIECE: usize = 32;
 
 /// A number of bytes that two texts share at the front: whole pieces.
 fn shared_front(text: &[u8], other: &[u8]) -> usize
-    ensures in_text { result ≤ length text.now }
-    ensures in_other { result ≤ length other.now }
-    ensures same { take result text.now ≡ take result other.now }
+    ensures { SharesFront text.now other.now result }
 {
     let most = text.len().min(other.len());
     let mut len = 0;
@@ -29,10 +27,7 @@ fn shared_front(text: &[u8], other: &[u8]) -> usize
 
 /// A number of bytes that two texts share at the back: whole pieces.
 fn shared_back(text: &[u8], other: &[u8]) -> usize
-    ensures in_text { result ≤ length text.now }
-    ensures in_other { result ≤ length other.now }
-    ensures same { drop (length text.now - result) text.now
-        ≡ drop (length other.now - result) other.now }
+    ensures { SharesBack text.now other.now result }
 {
     let most = text.len().min(other.len());
     let mut len = 0;

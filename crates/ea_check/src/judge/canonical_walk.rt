@@ -76,8 +76,7 @@ fn make_places(nodes: &mut Vec<u32>, len: usize) -> Result<(), AllocError>
 /// Whether a known place holds this node.
 fn stands_at(nodes: &[u32], known: usize, place: usize, node: u32) -> bool
     requires { place < length nodes.now }
-    ensures known { IsTrue result → place < known }
-    ensures same { IsTrue result → slice_index nodes.now place ≡ node }
+    ensures { IsTrue result → (place < known) × (slice_index nodes.now place ≡ node) }
 {
     place < known && nodes[place] == node
 }

@@ -3,5 +3,4 @@ use Rattle.ea_check.proofs.form.ahead.take_near.Goals as goal
 
 pub returns : goal.returns
 returns c =
-    let read = c.take_times.ensures in
-    found_near c.args.way c.args.text.now c.args.near c.args.first c.args.last c.take_times.new.times.items c.take_times.result read.inside read.run read.quiet read.few
+    found_near c.args.way c.args.text.now c.args.near c.args.first c.args.last c.take_times.new.times.items c.take_times.result c.take_times.ensures

@@ -1,4 +1,4 @@
-use Rattle.std.proofs.Common.{◌≡◌, ◌∙◌, ◌+◌, [], ℕ, List, ap, arith, drop, length, length-append, length-drop, ◌∷◌, sym, subst}
+use Rattle.std.proofs.Common.{◌≡◌, ◌∙◌, ◌+◌, [], ℕ, List, ap, arith, drop, length, length-append, length-drop, ◌∷◌, rules, sym, subst}
 use Rattle.ea_check.specs.Runs.{IsRun, TakesTime}
 use Rattle.ea_check.proofs.Runs.{begins_with_time, no_run, rest_takes, run_on}
 use Rattle.ea_check.proofs.form.plain_lines.take_times.Goals as goal
@@ -29,11 +29,26 @@ lines-preserved c =
       here = next;
     }
 
-pub returns-after-lines-clause-quiet : goal.returns-after-lines-clause-quiet
-returns-after-lines-clause-quiet c = begins_with_time c.args.way _ c.lines.time (drop c.lines.bytes c.args.text.now) c.lines.size c.lines.invariant.here
+pub returns-after-lines : goal.returns-after-lines
+returns-after-lines c = record {
+  inside = search rules;
+  run = search rules;
+  quiet = begins_with_time c.args.way _ c.lines.time (drop c.lines.bytes c.args.text.now) c.lines.size c.lines.invariant.here;
+  few = search rules;
+}
 
-pub returns-in_default-first_time-clause-quiet : goal.returns-in_default-first_time-clause-quiet
-returns-in_default-first_time-clause-quiet c = begins_with_time c.args.way _ c.lines.time (drop c.lines.bytes c.args.text.now) c.lines.size c.lines.invariant.here
+pub returns-in_default-first_time : goal.returns-in_default-first_time
+returns-in_default-first_time c = record {
+  inside = search rules;
+  run = search rules;
+  quiet = begins_with_time c.args.way _ c.lines.time (drop c.lines.bytes c.args.text.now) c.lines.size c.lines.invariant.here;
+  few = search rules;
+}
 
-pub returns-in_default-push-clause-quiet : goal.returns-in_default-push-clause-quiet
-returns-in_default-push-clause-quiet c = begins_with_time c.args.way _ c.lines.time (drop c.lines.bytes c.args.text.now) c.lines.size c.lines.invariant.here
+pub returns-in_default-push : goal.returns-in_default-push
+returns-in_default-push c = record {
+  inside = search rules;
+  run = search rules;
+  quiet = begins_with_time c.args.way _ c.lines.time (drop c.lines.bytes c.args.text.now) c.lines.size c.lines.invariant.here;
+  few = search rules;
+}

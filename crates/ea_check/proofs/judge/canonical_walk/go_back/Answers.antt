@@ -41,8 +41,8 @@ returns-then-stands_at c =
     let inv = c.back.invariant in
     let links = c.args.links.now in
     let arcs = c.args.arcs.now in
-    let known = c.stands_at.ensures.known c.if-stands_at.true in
-    let at = c.stands_at.ensures.same c.if-stands_at.true in
+    let known = (c.stands_at.ensures c.if-stands_at.true).0 in
+    let at = (c.stands_at.ensures c.if-stands_at.true).1 in
     let here : take {A = ℕ} c.back.left arcs ≡ walk_along links c.back.left (get_or c.back.nodes c.back.left 0) =
     inv.passed.each c.back.left known ∙ ap (walk_along links c.back.left) (sym (inv.before c.back.left (omega arith))) in
     let rest : take {A = ℕ} c.back.left arcs ≡ walk_along links c.back.left c.back.at = here ∙ ap (walk_along links c.back.left) at in

@@ -1,15 +1,12 @@
 use Rattle.std.proofs.Common.{◌≡◌, ◌+◌, if◌then◌else◌}
-use Rattle.ea_check.specs.Streams.{IsReady, Leads, size_left}
+use Rattle.ea_check.specs.Streams.{GetsMore}
 use Rattle.ea_check.proofs.form.report_lines.ReportLines.take_line.Given as goal
 
--- Bytes were taken from the device, and none was read.
 abbrev pub invariant-pulls : goal.invariant-pulls
 invariant-pulls g l = record {
-  ready : IsReady l.self;
-  leads : Leads (λ text next. text ≡ next) (g.R.Device.seen l.fn.device) l.fn.self (g.R.Device.seen l.device) l.self;
+  gets : GetsMore (g.R.Device.seen l.fn.device) l.fn.self (g.R.Device.seen l.device) l.self;
   count : l.self.count ≡ l.fn.self.count;
   way : l.self.way ≡ l.fn.self.way;
-  size : size_left l.self ≡ size_left l.fn.self;
 }
 
 abbrev pub decreases-pulls : goal.decreases-pulls
