@@ -9,7 +9,7 @@ use Rattle.std.specs.Io.KnownBytes.{Appends}
 use Rattle.std.proofs.KnownBytes.{Appends-trans, Appends-nil}
 use Rattle.ea_bytes.specs.Device.{Seen, one_more, BearsOn, GivesUp, HasGivenUp}
 use Rattle.ea_report.specs.Delivery.{Delivery, all_sent, with_more}
-use Rattle.ea_report.specs.Sent.{AreCounted, HasBorne, IsExact, IsNotLess, IsCutAt, IsCutBy, IsReason, Delivers, IsWhole, Adds, Cuts, GoesOn, SendsAll, SendsFront, Stops}
+use Rattle.ea_report.specs.Sent.{AreCounted, HasBorne, IsExact, IsNotLess, IsCutAt, IsCutBy, IsReason, Delivers, IsWhole, Adds, Cuts, GoesOn, SendsWhole, SendsFront, Stops}
 use Rattle.ea_report.specs.Writers.{AddsOrGivesUp, AddsOrStops, GoesOnOrCuts}
 use Rattle.ea_report.specs.declared.report.TheConstants.{PIECE}
 use Rattle.ea_report.specs.declared.report.WriteFault.{WriteFault}
@@ -52,7 +52,7 @@ again : (a b end : ℕ) → min (min a end + b) end ≡ min (a + b) end
 again a b end = omega arith
 
 -- All that was pending is sent.
-pub delivery_sent : (first old now : Seen) (d : Delivery) (after : ℕ) (text : List ℕ) → SendsAll old now d.pending d.interruptions after
+pub delivery_sent : (first old now : Seen) (d : Delivery) (after : ℕ) (text : List ℕ) → SendsWhole old now d.pending d.interruptions after
     → Delivers first old d text → Delivers first now (all_sent (min (d.written + length d.pending) (2 ^ 128 - 1)) after) text
 delivery_sent first old now d after text sends way = record {
   sent = way.sent ++ d.pending;
@@ -162,7 +162,7 @@ delivery_ends first now d text e few exact way =
     (size ∙ ap length (sym same), subst (λ t. Appends first.bytes now.bytes t) (sym same) way.appended, (way.borne.0, omega (arith, few, way.borne.1.0)), not_less first.interrupted now.interrupted d.interruptions way.borne.1)
 
 -- Bytes that were sent at once.
-pub adds_sent : (old now : Seen) (bytes : List ℕ) (written count before after : ℕ) → count ≡ length bytes → SendsAll old now bytes before after
+pub adds_sent : (old now : Seen) (bytes : List ℕ) (written count before after : ℕ) → count ≡ length bytes → SendsWhole old now bytes before after
     → Adds old (all_sent written before) now (all_sent (min (written + count) (2 ^ 128 - 1)) after) bytes
 adds_sent old now bytes written count before after size sends = λ first text way.
     let pending = with_more (all_sent written before) bytes in

@@ -46,7 +46,7 @@ pub record MayWriteNodes (style : Style) (chosen : Option (List ℕ)) (nodes : �
 
 -- A report can be written by these options: the answer is the query's on the network, chosen nodes are the
 -- network's and, with walks, the answer has them.
-pub record MayReport (roads : Roads) (query : Asking) (answer : Answered) (options : ReportOptions) : Type 0 where
+pub record MayWriteReport (roads : Roads) (query : Asking) (answer : Answered) (options : ReportOptions) : Type 0 where
   pub of : IsOf roads query answer
   pub chosen : AreChosen roads.nodes (chosen_by options)
   pub walks : options.style.walks ≡ true → answer.walks ≡ true

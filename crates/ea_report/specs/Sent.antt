@@ -20,7 +20,7 @@ abbrev pub HasBorne : Seen → Seen → ℕ → Type 0
 HasBorne first now count = (now.failed ≡ first.failed) × AreCounted first.interrupted now.interrupted count
 
 -- All of these bytes were sent, and the count of interruptions continues from any earlier count.
-pub record SendsAll (old now : Seen) (bytes : List ℕ) (before after : ℕ) : Type 0 where
+pub record SendsWhole (old now : Seen) (bytes : List ℕ) (before after : ℕ) : Type 0 where
   pub sent : Appends old.bytes now.bytes bytes
   pub counted : (first : Seen) → HasBorne first old before → HasBorne first now after
 

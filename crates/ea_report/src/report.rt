@@ -6,7 +6,7 @@ ghost use Rattle.ea_report.specs.Delivery.{all_sent};
 ghost use Rattle.ea_report.specs.Deliverers.{delivery_of};
 ghost use Rattle.ea_report.specs.Sent.{IsCutBy, IsWhole};
 ghost use Rattle.ea_report.specs.Writers.{AddsOrStops, GoesOnOrCuts, WritesOrCuts};
-ghost use Rattle.ea_report.specs.Asked.{AreChosen, IsOf, MayReport, MayWriteNode, MayWriteNodes, chosen_by};
+ghost use Rattle.ea_report.specs.Asked.{AreChosen, IsOf, MayWriteReport, MayWriteNode, MayWriteNodes, chosen_by};
 ghost use Rattle.ea_report.specs.FaultNumbers.{kind_number};
 ghost use Rattle.ea_report.specs.declared.report.TheConstants.{PIECE};
 ghost use Rattle.ea_bytes.specs.Device.{HasGivenUp};
@@ -347,7 +347,7 @@ impl Pending {
         out: &mut W,
     ) -> Result<(), WriteFault>
         requires held { length self.old.text.items < PIECE }
-        requires report { MayReport network.now query.now answer.now options }
+        requires report { MayWriteReport network.now query.now answer.now options }
         ensures { AddsOrStops (W.seen out.old) (delivery_of self.old) (W.seen out.new)
             (delivery_of self.new)
             (node_count (chosen_by options.entry) network.now.nodes + length query.now.sources + 1)
@@ -371,7 +371,7 @@ fn send_problem<W: ByteOut>(
     options: ReportOptions<'_>,
     out: &mut W,
 ) -> Result<u128, WriteFault>
-    requires { MayReport network.now query.now answer.now options }
+    requires { MayWriteReport network.now query.now answer.now options }
     ensures { WritesOrCuts
         ((node_count (chosen_by options.entry) network.now.nodes + length query.now.sources + 2) * 2 ^ 63)
         (W.seen out.old) (W.seen out.new)

@@ -1,6 +1,6 @@
 //! Sending bytes to a device.
 ghost use Rattle.std.specs.Prelude.{◌≤◌, OnOk, IfErr};
-ghost use Rattle.ea_report.specs.Sent.{SendsAll, SendsFront};
+ghost use Rattle.ea_report.specs.Sent.{SendsWhole, SendsFront};
 
 use ea_base::MOST_INTERRUPTIONS;
 use ea_bytes::{ByteOut, DeviceFault};
@@ -12,7 +12,7 @@ pub(crate) fn send<W: ByteOut>(
     interruptions: &mut u64,
 ) -> Result<(), usize>
     requires { interruptions.old ≤ MOST_INTERRUPTIONS }
-    ensures ok { OnOk result (SendsAll (W.seen out.old) (W.seen out.new) bytes.now
+    ensures ok { OnOk result (SendsWhole (W.seen out.old) (W.seen out.new) bytes.now
         interruptions.old interruptions.new) }
     ensures err { IfErr result (SendsFront (W.seen out.old) (W.seen out.new) bytes.now
         interruptions.old) }

@@ -11,8 +11,7 @@ use std::marker::Model;
 /// Whether a known place has this node.
 fn stands_at(nodes: &[u32], known: usize, place: usize, node: u32) -> bool
     requires { place < length nodes.now }
-    ensures known { IsTrue result → place < known }
-    ensures same { IsTrue result → slice_index nodes.now place ≡ node }
+    ensures { IsTrue result → (place < known) × (slice_index nodes.now place ≡ node) }
 {
     place < known && nodes[place] == node
 }

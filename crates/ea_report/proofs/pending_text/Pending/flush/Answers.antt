@@ -1,13 +1,13 @@
 use Rattle.std.proofs.Common.{arith, ◌≡◌, length}
 use Rattle.ea_report.specs.Deliverers.{delivery_of}
-use Rattle.ea_report.specs.Sent.{SendsAll, SendsFront}
+use Rattle.ea_report.specs.Sent.{SendsWhole, SendsFront}
 use Rattle.ea_report.proofs.Pieces.{delivery_sent, delivery_cut}
 use Rattle.ea_report.proofs.pending_text.Pending.flush.Goals as goal
 
 pub returns-in-Ok-clause-sends : goal.returns-in-Ok-clause-sends
 returns-in-Ok-clause-sends g c =
     let pending = c.args.self.now.text.items in
-    let sent : SendsAll (g.W.Device.seen c.args.out.now) (g.W.Device.seen c.send.new.out) pending c.args.self.now.interruptions c.send.new.interruptions = rw c.deref.ensures.value at c.in-Ok.ensures.ok in
+    let sent : SendsWhole (g.W.Device.seen c.args.out.now) (g.W.Device.seen c.send.new.out) pending c.args.self.now.interruptions c.send.new.interruptions = rw c.deref.ensures.value at c.in-Ok.ensures.ok in
     let len : c.len.result ≡ length pending = omega (arith, c.args.self.now.text.ok.0) in
     let old = (g.W.Device.seen c.args.out.now) in
     let now = (g.W.Device.seen c.send.new.out) in record {
