@@ -1,6 +1,6 @@
 -- Lines of rank errors that were sent, problem by problem.
-use Rattle.std.proofs.Common.{◌≡◌, ℕ, zero, suc, map, ◌+◌, ◌*◌, ◌≤◌, ◌<◌, false, List, [], ◌∷◌, ◌++◌, length, take, get_or, refl, ap, ap₂, sym, ◌∙◌, arith, subst, inl, inr, append-nil, append_assoc}
-use Rattle.std.specs.Prelude.{All, None, Option, Result, Ok, Err, IfErr, IfOk, OnOk, codes}
+use Rattle.std.proofs.Common.{◌≡◌, ℕ, zero, suc, map, ◌+◌, ◌-◌, ◌*◌, ◌^◌, ◌≤◌, ◌<◌, false, List, [], ◌∷◌, ◌++◌, length, take, get_or, refl, ap, ap₂, sym, ◌∙◌, arith, subst, append-nil, append_assoc}
+use Rattle.std.specs.Prelude.{All, None, Option, Result, Ok, Err, IfOk, OnOk, codes}
 use Rattle.std.specs.List.{flat_map}
 use Rattle.std.specs.Io.KnownBytes.{Appends}
 use Rattle.std.proofs.Math.Seq.{take-length}
@@ -16,7 +16,7 @@ use Rattle.ea_rank.specs.Summaries.{summary_of}
 use Rattle.ea_report.specs.Report.{line, source_line}
 use Rattle.ea_bytes.specs.Device.{BearsOn, Seen}
 use Rattle.ea_report.specs.Delivery.{Delivery, all_sent}
-use Rattle.ea_report.specs.Sent.{IsCutBy, IsExact, IsReason, Stops}
+use Rattle.ea_report.specs.Sent.{IsCutBy, IsReason, Stops}
 use Rattle.ea_report.specs.declared.report.WriteFault.{WriteFault}
 use Rattle.ea_report.specs.declared.report.WriteFaultKind.TheVariants.{WriteFailed}
 use Rattle.ea_rank_command.specs.Ranks.{AddsRanks, AreRanks, AreRankTexts, AreDelivered, HasOneSource, IsRankFront, IsRankingCut, IsRankText, StopsRanks, rank_asks, rank_files, rank_line}
@@ -98,12 +98,12 @@ module _ (heaps seed : ℕ) (roads : Roads) (answers : ℕ → ℕ → ℕ → �
         (way.0 ++ more.0, subst (λ qs. AreRankTexts heaps seed roads answers qs (way.0 ++ more.0)) (sym one_more) (texts_more (take i all) query way.0 more.0 way.1 more.1), more.2 first way.0 way.2)
 
     -- They stop.
-    module _ (first old now : Seen) (before interruptions : ℕ) (borne : interruptions ≤ 1000) (exact : IsExact before) (way : AreDelivered heaps seed roads answers (take i all) first old (all_sent before interruptions)) where
+    module _ (first old now : Seen) (before interruptions : ℕ) (borne : interruptions ≤ 1000) (few : before + 2 ^ 70 < 2 ^ 128 - 1) (way : AreDelivered heaps seed roads answers (take i all) first old (all_sent before interruptions)) where
       -- Nothing of them was sent.
       nothing : (written : ℕ) → written ≡ before → now ≡ old → IsRankFront heaps seed roads answers all first.bytes now.bytes written
       nothing written same still =
           let whole : way.0 ≡ way.2.sent = way.2.whole ∙ append-nil way.2.sent in
-          let size : written ≡ length way.0 = omega (arith, same, way.2.counted, exact, ap length (sym whole)) in
+          let size : written ≡ length way.0 = omega (arith, same, way.2.counted, few, ap length (sym whole)) in
           let front : take written way.0 ≡ way.2.sent = ap (λ (n : ℕ). take n way.0) size ∙ take-length way.0 ∙ whole in
           record {
             count = i;
@@ -119,7 +119,7 @@ module _ (heaps seed : ℕ) (roads : Roads) (answers : ℕ → ℕ → ℕ → �
       pub ranks_stop : (fault : AnswerFault) → StopsRanks heaps seed roads answers query old (all_sent before interruptions) now fault → IsRankingCut heaps seed roads answers all first now fault
       ranks_stop (Write written) stop =
           let text : List ℕ = way.0 ++ stop.0 in
-          let cut : IsCutBy first now text (record { written = written; kind = WriteFailed }) = stop.2 first way.0 way.2 in (
+          let cut : IsCutBy first now text (record { written = written; kind = WriteFailed }) = stop.3 (omega (arith, few, stop.2)) first way.0 way.2 in (
             record {
               count = i + 1;
               text = text;

@@ -1,5 +1,5 @@
 -- The lines of rank errors, source by source.
-use Rattle.std.specs.Prelude.{◌≡◌, ◌⊎◌, ℕ, ◌*◌, List, [], ◌∷◌, ◌++◌, false, Option, Ok, codes, decimal, length, option_map, take, None}
+use Rattle.std.specs.Prelude.{◌≡◌, ℕ, ◌+◌, ◌*◌, ◌^◌, ◌≤◌, List, [], ◌∷◌, ◌++◌, false, Option, Ok, codes, decimal, length, option_map, take, None}
 use Rattle.std.specs.List.{flat_map}
 use Rattle.std.specs.Io.KnownBytes.{Appends}
 use Rattle.ea_bytes.specs.Device.{Seen, BearsOn, GivesUp}
@@ -20,14 +20,14 @@ use Rattle.ea_rank.specs.Records.{ContainArrivals, HasRanks}
 use Rattle.ea_rank.specs.Summaries.{summary_of}
 use Rattle.ea_report.specs.Report.{line, source_line}
 use Rattle.ea_report.specs.Delivery.{Delivery}
-use Rattle.ea_report.specs.Sent.{Adds, Delivers, IsCutAt, Stops}
+use Rattle.ea_report.specs.Sent.{Adds, Delivers, IsCutAt, IsExact, Stops}
 use Rattle.ea_report.specs.declared.report.WriteFaultKind.TheVariants.{WriteFailed}
 use Rattle.ea_options.specs.Limits.{counted_workers}
 use Rattle.ea_options.specs.declared.options.RunOptions.{RunOptions}
 use Rattle.ea_load.specs.Asked.{Asks, Files}
 use Rattle.ea_rank_command.specs.Generators.{words_from}
 use Rattle.ea_load.specs.declared.answer_fault.AnswerFault.{AnswerFault}
-use Rattle.ea_load.specs.declared.answer_fault.AnswerFault.TheVariants.{Read, Input, BadOption, Write, OutOfMemory}
+use Rattle.ea_load.specs.declared.answer_fault.AnswerFault.TheVariants.{Write, OutOfMemory}
 
 -- A recorded run has as many heaps as all workers have.
 abbrev pub heaps_of : RunOptions → ℕ
@@ -91,15 +91,15 @@ module _ (heaps seed : ℕ) (roads : Roads) (answers : ℕ → ℕ → ℕ → �
 
   -- ---- one problem of many, which are sent as one text
 
-  -- Its lines were sent.
+  -- Its lines were sent, at most 2^70 bytes.
   abbrev pub AddsRanks : Asking → Seen → Delivery → Seen → Delivery → Type 0
   AddsRanks query old delivery now delivery_now =
-      (text : List ℕ) × IsRankText query text × Adds old delivery now delivery_now text
+      (text : List ℕ) × IsRankText query text × Adds old delivery now delivery_now text × (delivery_now.written ≤ delivery.written + 2 ^ 70)
 
-  -- The device gave up in its lines; or memory was refused before them.
+  -- The device gave up in its lines, after at most 2^70 bytes of them; or memory was refused before them.
   abbrev pub StopsRanks : Asking → Seen → Delivery → Seen → AnswerFault → Type 0
   StopsRanks query old delivery now (Write sent) =
-      (text : List ℕ) × IsRankText query text × Stops old delivery now (record { written = sent; kind = WriteFailed }) text
+      (text : List ℕ) × IsRankText query text × (sent ≤ delivery.written + 2 ^ 70) × (IsExact sent → Stops old delivery now (record { written = sent; kind = WriteFailed }) text)
   StopsRanks query old delivery now (OutOfMemory sent) = (sent ≡ delivery.written) × (now ≡ old)
   StopsRanks query old delivery now _ = ⊥
 

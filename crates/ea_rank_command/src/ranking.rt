@@ -6,8 +6,7 @@ ghost use Rattle.ea_road.specs.Queries.{IsProblem};
 ghost use Rattle.ea_rank.specs.Summaries.{summary_of};
 ghost use Rattle.ea_report.specs.Report.{source_line};
 ghost use Rattle.ea_report.specs.Deliverers.{direct_delivery};
-ghost use Rattle.ea_report.specs.Sent.{Adds, Stops};
-ghost use Rattle.ea_report.specs.declared.report.WriteFaultKind.TheVariants.{WriteFailed};
+ghost use Rattle.ea_report.specs.Writers.{AddsOrGivesUp};
 ghost use Rattle.ea_options.specs.Limits.{AreOptions};
 ghost use Rattle.ea_load.specs.Asked.{IsAnswered, IsFailed};
 ghost use Rattle.ea_load.specs.Posed.{AreProblems, times_on};
@@ -64,13 +63,8 @@ fn put_ranks<W: ByteOut>(
     summary: Summary,
     out: &mut W,
 ) -> Result<(), WriteFault>
-    requires { direct.old.written ≤ MOST_STARTS * 2 ^ 70 }
-    ensures ok { OnOk result (Adds (W.seen out.old) (direct_delivery direct.old)
-        (W.seen out.new) (direct_delivery direct.new) (source_line source ++ rank_line summary)) }
-    ensures err { IfErr result (λ fault. Stops (W.seen out.old) (direct_delivery direct.old)
-        (W.seen out.new) fault (source_line source ++ rank_line summary)) }
-    ensures device { IfErr result (λ fault. fault.kind ≡ WriteFailed) }
-    ensures bound { OnOk result (direct.new.written ≤ direct.old.written + 2 ^ 70) }
+    ensures { AddsOrGivesUp (W.seen out.old) (direct_delivery direct.old) (W.seen out.new)
+        (direct_delivery direct.new) 11 (source_line source ++ rank_line summary) result }
 {
     let mut node = Buffer::new();
     let mut departure = Buffer::new();
@@ -106,14 +100,12 @@ fn rank_one<W: ByteOut>(
     requires problem { IsProblem road.now.network (length road.now.times.tables.list.items) query.now }
     requires one { HasOneSource query.now }
     requires heaps { (2 ≤ heaps) × (heaps ≤ 128) }
-    requires room { direct.old.written ≤ MOST_STARTS * 2 ^ 70 }
     ensures ok { OnOk result (AddsRanks heaps seed road.now.network (times_on road.now) query.now
         (W.seen out.old) (direct_delivery direct.old)
         (W.seen out.new) (direct_delivery direct.new)) }
     ensures err { IfErr result (StopsRanks heaps seed road.now.network (times_on road.now) query.now
         (W.seen out.old) (direct_delivery direct.old)
         (W.seen out.new)) }
-    ensures bound { OnOk result (direct.new.written ≤ direct.old.written + 2 ^ 70) }
 {
     let Ok(found) = ranks_of(alloc, road, query, heaps, seed) else {
         return Err(AnswerFault::OutOfMemory {

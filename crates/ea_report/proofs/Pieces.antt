@@ -344,9 +344,3 @@ pub pieces_stop_first : {T : Type 0} (a c : Seen) (d f : Delivery) (fault : Writ
     → AddsOrGivesUp {T = T} a d c f most whole (Err fault)
 pieces_stop_first a c d f fault some most next rest whole few is stops device bound small =
     pieces_stop a a c d d f fault 0 some most [] next rest whole (omega (arith, few)) is (adds_none a d) (omega arith) stops device bound small
-
--- Where no count reaches its end, a text stops as it is told.
-pub told_exactly : {T : Type 0} (r : Result T WriteFault) (old now : Seen) (d : Delivery) (most : ℕ) (more : List ℕ) → most < 2 ^ 128 - 1 → IfErr r (λ fault. fault.written ≤ most)
-    → IfErr r (λ fault. IsExact fault.written → Stops old d now fault more) → IfErr r (λ fault. Stops old d now fault more)
-told_exactly (Ok x) old now d most more few small stops = tt
-told_exactly (Err fault) old now d most more few small stops = stops (omega (arith, few, small))

@@ -71,6 +71,12 @@ pub record AreWritten (links : List Link) (nodes ends text : List ℕ) : Type 0 
   pub fronts : AreFronts links nodes ends text
   pub text_is : IsWalkText links nodes (length ends) text
 
+-- Up to each end the text is that of the walk to the node of its place, and as a whole that of the walk to this
+-- node.
+pub record HoldsWalk (links : List Link) (nodes ends text : List ℕ) (node : ℕ) : Type 0 where
+  pub fronts : AreFronts links nodes ends text
+  pub whole : text ≡ arcs_text (linked_walk links node)
+
 -- There are nodes, and from a place on they follow their links.
 pub record FollowLinks (links : List Link) (nodes : List ℕ) (from : ℕ) : Type 0 where
   pub followable : AreFollowable links

@@ -1,7 +1,7 @@
 //! The arcs of walks as text. What a walk shares with the one before is not written again.
 ghost use Rattle.std.specs.Prelude.{◌≡◌, ◌<◌, ◌≤◌, ◌+◌, ◌-◌, [], IsTrue, OnOk, length, slice_index, take};
 ghost use Rattle.ea_search.specs.Links.{link, linked_walk};
-ghost use Rattle.ea_report.specs.Walks.{AreFronts, AreWritten, FillsBack, FollowLinks, HasWalk, IsStep, IsWalkText, KeepsFronts, arcs_text, front_end, text_to};
+ghost use Rattle.ea_report.specs.Walks.{AreFronts, AreWritten, FillsBack, FollowLinks, HasWalk, HoldsWalk, IsStep, IsWalkText, KeepsFronts, arcs_text, front_end, text_to};
 
 use crate::lines::push_number;
 use ea_search::Link;
@@ -63,9 +63,8 @@ fn write_on(
 ) -> Result<(), AllocError>
     requires path { FollowLinks links.now nodes.now (length ends.old.items) }
     requires written { AreWritten links.now nodes.now ends.old.items text.old.items }
-    ensures fronts { OnOk result (AreFronts links.now nodes.now ends.new.items text.new.items) }
-    ensures whole { OnOk result
-        (text.new.items ≡ text_to links.now nodes.now (length nodes.now - 1)) }
+    ensures { OnOk result (HoldsWalk links.now nodes.now ends.new.items text.new.items
+        (slice_index nodes.now (length nodes.now - 1))) }
 {
     'on: while ends.len() < nodes.len() {
         push_arc_at(links, nodes, ends.len(), text)?;
@@ -108,9 +107,8 @@ fn go_on(
 ) -> Result<(), AllocError>
     requires walk { HasWalk links.now node }
     requires fronts { AreFronts links.now nodes.old.items ends.old.items text.old.items }
-    ensures fronts { OnOk result
-        (AreFronts links.now nodes.new.items ends.new.items text.new.items) }
-    ensures whole { OnOk result (text.new.items ≡ arcs_text (linked_walk links.now node)) }
+    ensures { OnOk result
+        (HoldsWalk links.now nodes.new.items ends.new.items text.new.items node) }
 {
     let places = links[node as usize - 1].level as usize + 1;
     make_places(nodes, ends, places)?;

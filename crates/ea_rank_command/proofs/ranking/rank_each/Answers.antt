@@ -19,5 +19,5 @@ loop-query-preserved g c =
       done = omega (arith, inv.done);
       way = next_delivered c.args.heaps c.args.seed c.args.road.now.network (times_on c.args.road.now) c.args.queries.now i c.query-item.result c.loop-query-test.true c.query-item.is first _ _ _ _ inv.way c.in_ok-rank_one.ensures.ok;
       borne = search rules;
-      bound = omega (arith, c.in_ok-rank_one.ensures.bound, inv.bound);
+      bound = omega (arith, c.in_ok-rank_one.ensures.ok.3, inv.bound);
     }

@@ -1,9 +1,7 @@
 use Rattle.std.proofs.Common.{rules, ℕ, ◌≤◌, ◌<◌, false, length, refl, inl, inr, sym, ◌∙◌, subst, ap, arith}
 use Rattle.std.specs.Prelude.{All, IfErr, IsTrue, None, OnOk}
 use Rattle.std.proofs.lemmas.Result.{err_from_is_err_and}
-use Rattle.ea_input.specs.Formats.{source_format}
 use Rattle.ea_input.specs.Sources.{DenotesSources}
-use Rattle.ea_load.specs.declared.file_fault.FileWord.TheVariants.{Ss}
 use Rattle.ea_load.specs.Files.{reading}
 use Rattle.ea_load.specs.Starts.{AreWithin, run_problems}
 use Rattle.ea_load.proofs.Denoting.{sources_are_nodes}

@@ -2,9 +2,8 @@ use Rattle.std.proofs.Common.{◌≡◌, ◌∙◌, ℕ, List, ◌-◌, ◌+◌,
 use Rattle.std.specs.Prelude.{slice_index, OnOk}
 use Rattle.std.proofs.lemmas.List.{length-take-le}
 use Rattle.ea_search.specs.declared.link.Link.{Link}
-use Rattle.ea_search.specs.Links.{linked_walk}
 use Rattle.ea_paths.proofs.Linkings.{link_read}
-use Rattle.ea_report.specs.Walks.{AreWritten, IsPath, arcs_text}
+use Rattle.ea_report.specs.Walks.{AreWritten, HoldsWalk, IsPath}
 use Rattle.ea_report.proofs.Following.{written_kept}
 use Rattle.ea_report.proofs.walk_texts.go_on.Goals as goal
 
@@ -36,11 +35,12 @@ write_on-requires-clause-written c =
     subst P (sym c.deref.ensures.value) (written_kept c.args.links.now c.args.nodes.now.items c.make_places.new.nodes.items c.go_back-kept.new.nodes.items c.args.ends.now.items c.make_places.new.ends.items c.cut_to.new.ends.items c.args.text.now.items c.cut_to.new.text.items c.go_back-kept.result
     c.requires.fronts made.keeps (omega (arith, c.go_back-kept.ensures.known, c.len.ensures)) (omega (arith, gone.within, gone.places)) gone.same c.cut_to.ensures.ends c.cut_to.ensures.text)
 
-pub returns-clause-whole : goal.returns-clause-whole
-returns-clause-whole c =
+pub returns : goal.returns
+returns c =
     let level = ap (λ (l : Link). l.level) (link_read c.args.links.now c.args.node c.requires.walk.is_node.from_one c.requires.walk.is_node.to_last) in
     let size = ap (λ (xs : List ℕ). length xs) c.deref.ensures.value ∙ c.go_back-kept.ensures.fills.places ∙ c.in_ok-make_places.ensures.places ∙ ap (λ n. n + 1) level in
     let last : slice_index c.deref.result.now (length c.deref.result.now - 1) ≡ c.args.node =
     ap (λ (xs : List ℕ). get_or xs (length c.deref.result.now - 1) 0) c.deref.ensures.value ∙ ap (λ n. get_or c.go_back-kept.new.nodes.items n 0) (omega (arith, size)) ∙ c.go_back-kept.ensures.fills.last in
-    let P : ℕ → Type 0 = λ n. OnOk c.write_on.result (c.write_on.new.text.items ≡ arcs_text (linked_walk c.args.links.now n)) in
-    subst P last c.write_on.ensures.whole
+    let nodes = c.go_back-kept.new.nodes.items in
+    let P : List ℕ → ℕ → Type 0 = λ xs n. OnOk c.write_on.result (HoldsWalk c.args.links.now xs c.write_on.new.ends.items c.write_on.new.text.items n) in
+    subst (λ xs. P xs c.args.node) c.deref.ensures.value (subst (λ n. P c.deref.result.now n) last c.write_on.ensures)
