@@ -16,19 +16,19 @@ module _ {T : Type 0} (old : Seen) (before : Delivery) (now : Seen) (after : Del
     pub small : IfErr result (λ fault. fault.written ≤ before.written + 2 ^ 63)
     pub held : OnOk result (length after.pending < PIECE)
 
-  -- More text was added, up to this many lines, and less than a piece is pending; or the text stops within
-  -- them. The lines are few enough for an exact count of bytes, if it began at 0.
-  pub record AddsOrStops (lines : ℕ) (more : List ℕ) (result : Result T WriteFault) : Type 0 where
+  -- More text was added in up to this many parts of at most 2^63 bytes, and less than a piece is pending; or the
+  -- text stops within it, as far as the count of bytes is exact. It is if it began at 0: the parts are few enough.
+  pub record AddsOrStops (parts : ℕ) (more : List ℕ) (result : Result T WriteFault) : Type 0 where
     pub ok : OnOk result (Adds old before now after more)
     pub err : IfErr result (λ fault. IsExact fault.written → Stops old before now fault more)
     pub count : ℕ
-    pub within : count ≤ lines
+    pub within : count ≤ parts
     pub few : count < 2 ^ 64 + 2 ^ 33
     pub bound : after.written ≤ before.written + count * 2 ^ 63
     pub small : IfErr result (λ fault. fault.written ≤ before.written + count * 2 ^ 63)
     pub held : OnOk result (length after.pending < PIECE)
 
-  -- More text was sent at once, in this many pieces; or the device gave up within them.
+  -- More text was sent at once, in up to this many pieces of at most 2^64 bytes; or the device gave up within it.
   pub record AddsOrGivesUp (pieces : ℕ) (more : List ℕ) (result : Result T WriteFault) : Type 0 where
     pub ok : OnOk result (Adds old before now after more)
     pub err : IfErr result (λ fault. IsExact fault.written → Stops old before now fault more)

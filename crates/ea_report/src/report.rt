@@ -305,7 +305,8 @@ impl Pending {
         ensures { AddsOrStops (W.seen out.old) (delivery_of self.old) (W.seen out.new)
             (delivery_of self.new) (length sources.now + node_count (chosen_by options.entry) nodes)
             (flat_map (start_line options.entry.style.direction) sources.now
-            ++ reported_nodes options.entry.style (chosen_by options.entry) nodes answer.now) result }
+            ++ reported_nodes options.entry.style (chosen_by options.entry) nodes answer.now)
+            result }
     {
         match self.put_starts(sources, options.style.direction, out) {
             Ok(()) => self.put_nodes(alloc, answer, nodes, options, out),
@@ -373,7 +374,8 @@ fn send_problem<W: ByteOut>(
 ) -> Result<u128, WriteFault>
     requires { MayWriteReport network.now query.now answer.now options }
     ensures { WritesOrCuts
-        ((node_count (chosen_by options.entry) network.now.nodes + length query.now.sources + 2) * 2 ^ 63)
+        ((node_count (chosen_by options.entry) network.now.nodes
+        + length query.now.sources + 2) * 2 ^ 63)
         (W.seen out.old) (W.seen out.new)
         (report_text options.entry.style (chosen_by options.entry) network.now.nodes
         query.now answer.now) result }

@@ -34,7 +34,8 @@ fn read_source<R: ByteIn>(
     ensures { ReadsOrStops
         (λ _. LeadsTo (ReadsSources (source ∷ []))
         (R.seen device.old) lines.old (R.seen device.new) lines.new)
-        (SourcesWrong (source ∷ [])) (R.seen device.old) lines.old (R.seen device.new) lines.new result }
+        (SourcesWrong (source ∷ []))
+        (R.seen device.old) lines.old (R.seen device.new) lines.new result }
 {
     let Some(line) = lines.line() else {
         return Err(Stop::Report(CheckFault::BadLine(0)));
@@ -58,7 +59,8 @@ fn read_sources<R: ByteIn>(
     ensures { ReadsOrStops
         (λ _. LeadsTo (ReadsSources sources.now)
         (R.seen device.old) lines.old (R.seen device.new) lines.new)
-        (SourcesWrong sources.now) (R.seen device.old) lines.old (R.seen device.new) lines.new result }
+        (SourcesWrong sources.now)
+        (R.seen device.old) lines.old (R.seen device.new) lines.new result }
 {
     for source in sources {
         read_source(lines, device, *source)?;
@@ -244,7 +246,8 @@ pub(crate) fn read_problem<C: Team, R: ByteIn>(
     ensures { ReadsOrStops
         (λ _. LeadsTo (ReadsProblem nodes sources.now reported.new)
         (R.seen device.old) lines.old (R.seen device.new) lines.new)
-        (ProblemWrong nodes sources.now) (R.seen device.old) lines.old (R.seen device.new) lines.new result }
+        (ProblemWrong nodes sources.now)
+        (R.seen device.old) lines.old (R.seen device.new) lines.new result }
 {
     read_sources(lines, device, sources)?;
     read_nodes(team, lines, device, nodes, ahead, reported)
