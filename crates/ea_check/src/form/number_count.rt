@@ -25,9 +25,11 @@ struct Found {
 /// it is vectorised.
 fn found_in(piece: &[u8], before: bool) -> Found
     requires { length piece.now ≤ PIECE }
-    ensures starts { result.starts ≡ starts before piece.now }
-    ensures other { result.other ≡ has_other piece.now }
-    ensures blank { result.blank ≡ ends_blank before piece.now }
+    ensures { result ≡ record {
+      starts = starts before piece.now;
+      other = has_other piece.now;
+      blank = ends_blank before piece.now;
+    } }
 {
     let mut starts = 0;
     let mut other = false;

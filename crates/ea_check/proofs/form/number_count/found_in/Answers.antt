@@ -1,6 +1,6 @@
-use Rattle.std.proofs.Common.{◌∙◌, ◌+◌, [], ◌∷◌, drop, get_or, ap, arith, sym}
+use Rattle.std.proofs.Common.{◌≡◌, ◌∙◌, ◌+◌, [], ◌∷◌, drop, get_or, ap, arith, sym}
 use Rattle.std.proofs.lemmas.List.{drop_all}
-use Rattle.ea_check.specs.Counted.{ends_blank}
+use Rattle.ea_check.specs.Counted.{ends_blank, has_other, starts}
 use Rattle.ea_check.proofs.Counting.{begins_here, more_other, more_starts, next_byte, or_none, other_here, starts_few}
 use Rattle.ea_check.proofs.form.number_count.found_in.Goals as goal
 
@@ -21,17 +21,10 @@ loop-b-preserved c =
       blank = ap (λ t. ends_blank t after) gap ∙ sym (ap (ends_blank c.loop-b.blank) here) ∙ was.blank;
     }
 
-pub returns-clause-starts : goal.returns-clause-starts
-returns-clause-starts c =
+pub returns : goal.returns
+returns c =
     let none = drop_all c.loop-b.b-index c.args.piece.now c.loop-b-test.false in
-    omega (arith, rw none at c.loop-b.invariant.starts)
-
-pub returns-clause-other : goal.returns-clause-other
-returns-clause-other c =
-    let none = drop_all c.loop-b.b-index c.args.piece.now c.loop-b-test.false in
-    or_none c.loop-b.other ∙ rw none at c.loop-b.invariant.other
-
-pub returns-clause-blank : goal.returns-clause-blank
-returns-clause-blank c =
-    let none = drop_all c.loop-b.b-index c.args.piece.now c.loop-b-test.false in
-    rw none at c.loop-b.invariant.blank
+    let begun : c.loop-b.starts ≡ starts c.args.before c.args.piece.now = omega (arith, rw none at c.loop-b.invariant.starts) in
+    let found : c.loop-b.other ≡ has_other c.args.piece.now = or_none c.loop-b.other ∙ rw none at c.loop-b.invariant.other in
+    let ended : c.loop-b.blank ≡ ends_blank c.args.before c.args.piece.now = rw none at c.loop-b.invariant.blank in
+    λ i. record { starts = begun i; other = found i; blank = ended i }
