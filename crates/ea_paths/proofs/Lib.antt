@@ -1,4 +1,5 @@
 pub mod Linkings
+pub mod Offerings
 pub mod Linked
 pub mod Mendings
 pub mod Replayings
@@ -8,3 +9,5 @@ pub mod Followed
 pub mod Answered
 pub mod LedAnswers
 pub mod Guided
+pub mod Found
+pub mod Labelled

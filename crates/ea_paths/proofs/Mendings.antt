@@ -1,12 +1,13 @@
 -- Repairing links.
-use Rattle.std.proofs.Common.{◌≡◌, ℕ, zero, suc, ◌+◌, ◌-◌, ◌<◌, ◌≤◌, List, [], ◌∷◌, length, get_or, Contains, refl, sym, ◌∙◌, ap, subst, ◌⊎◌, inl, inr, arith}
+use Rattle.std.proofs.Common.{◌≡◌, ℕ, Bool, zero, suc, ◌+◌, ◌-◌, ◌<◌, ◌≤◌, List, [], ◌∷◌, length, get_or, Contains, refl, sym, ◌∙◌, ap, subst, ◌⊎◌, inl, inr, arith}
 use Rattle.std.proofs.lemmas.Bool.{cases_lt}
 use Rattle.std.proofs.lemmas.List.{get_or_default, get_or_past}
 use Rattle.ea_road.specs.declared.source.Source.{Source}
 use Rattle.ea_road.specs.Roads.{Roads}
 use Rattle.ea_search.specs.declared.link.Link.{Link}
 use Rattle.ea_search.specs.declared.link.TheConstants.{NO_LEVEL}
-use Rattle.ea_paths.specs.Mended.{AreMended, AreReady, IsReady}
+use Rattle.ea_search.specs.Worklist.{Ring}
+use Rattle.ea_paths.specs.Mended.{AreMended, AreReady, IsReady, KeepsMended, MendsNode}
 use Rattle.ea_search.specs.Links.{link, no_link}
 use Rattle.ea_paths.specs.Offers.{IsSeed, IsSpent, IsSpread, Offers, Precedes, MeetsBound}
 use Rattle.ea_paths.proofs.Linked.{Settled}
@@ -151,3 +152,16 @@ module _ (roads : Roads) (answers : ℕ → ℕ → ℕ → ℕ → Type 0) (sou
     room = ready;
     low = mended.low;
   }
+
+-- one more node was repaired
+pub KeepsMended-more : (roads : Roads) (answers : ℕ → ℕ → ℕ → ℕ → Type 0) (table : List ℕ) (u : ℕ) (goes_on : Bool) (first links links' : List Link) (start before waiting waiting' : Ring) → before.waiting ≡ u ∷ waiting.waiting → waiting.nodes ≡ before.nodes → KeepsMended roads answers table first start links before → MendsNode roads answers table u goes_on links waiting links' waiting' → KeepsMended roads answers table first start links' waiting'
+KeepsMended-more roads answers table u goes_on first links links' start before waiting waiting' taken nodes kept mends = record {
+  places = record {
+    places = mends.offers.places ∙ kept.places.places;
+    room = mends.room ∙ nodes ∙ kept.places.room;
+  };
+  mended = λ sources begun.
+      let P : List ℕ → Type 0 = λ xs. AreMended roads answers sources table links xs in
+      AreMended-more roads answers sources table u links links' waiting.waiting waiting'.waiting (subst P taken (kept.mended sources begun)) mends.offers mends.spent;
+  lower = λ v. (let falls = Offers-lower _ _ _ _ _ _ mends.offers v in let low = kept.lower v in omega arith);
+}

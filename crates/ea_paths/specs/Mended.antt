@@ -1,11 +1,13 @@
 -- Links during the repair.
-use Rattle.std.specs.Prelude.{◌≡◌, ℕ, ◌+◌, ◌<◌, ◌≤◌, List, length, Contains, ◌⊎◌}
+use Rattle.std.specs.Prelude.{◌≡◌, ℕ, ◌+◌, ◌<◌, ◌≤◌, Bool, IsTrue, List, length, Contains, ◌⊎◌}
 use Rattle.ea_road.specs.declared.source.Source.{Source}
 use Rattle.ea_road.specs.Roads.{Roads}
 use Rattle.ea_search.specs.declared.link.Link.{Link}
 use Rattle.ea_search.specs.declared.link.TheConstants.{NO_LEVEL}
 use Rattle.ea_search.specs.Links.{link}
-use Rattle.ea_paths.specs.Offers.{IsSeed, Precedes, MeetsBound}
+use Rattle.ea_search.specs.Worklist.{Ring}
+use Rattle.ea_paths.specs.Offers.{IsSeed, IsSpent, IsSpread, MeetsBound, Offers, Precedes}
+use Rattle.ea_paths.specs.Places.{HavePlaces}
 
 -- Each link with a level begins a walk at a source or follows a tight arc from a lower level; no tight arc
 -- gives a better one, except arcs from waiting nodes.
@@ -28,3 +30,35 @@ IsReady l = l.level < NO_LEVEL → l.level + 1 < NO_LEVEL
 
 abbrev pub AreReady : List Link → Type 0
 AreReady links = (v : ℕ) → IsReady (link links v)
+
+-- A node was repaired: links by its tight arcs were offered, all of them if one more level fits above its own.
+-- The repair may go on only if it does.
+pub record MendsNode
+    (roads : Roads)
+    (answers : ℕ → ℕ → ℕ → ℕ → Type 0)
+    (table : List ℕ)
+    (node : ℕ)
+    (goes_on : Bool)
+    (links : List Link)
+    (waiting : Ring)
+    (links' : List Link)
+    (waiting' : Ring)
+    : Type 0 where
+  pub offers : Offers roads.nodes (IsSpread roads answers table node ((link links node).level + 1)) links waiting.waiting links' waiting'.waiting
+  pub spent : (link links node).level + 1 < NO_LEVEL → IsSpent roads answers table links' node ((link links node).level + 1)
+  pub room : waiting'.nodes ≡ waiting.nodes
+  pub ready : IsTrue goes_on → IsReady (link links node)
+
+-- Some waiting nodes were repaired: mended links stay mended, from any sources, and no level rose.
+pub record KeepsMended
+    (roads : Roads)
+    (answers : ℕ → ℕ → ℕ → ℕ → Type 0)
+    (table : List ℕ)
+    (links : List Link)
+    (waiting : Ring)
+    (links' : List Link)
+    (waiting' : Ring)
+    : Type 0 where
+  pub places : HavePlaces roads.nodes links' waiting'
+  pub mended : (sources : List Source) → AreMended roads answers sources table links waiting.waiting → AreMended roads answers sources table links' waiting'.waiting
+  pub lower : (v : ℕ) → (link links' v).level ≤ (link links v).level

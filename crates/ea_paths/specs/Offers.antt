@@ -9,6 +9,7 @@ use Rattle.ea_search.specs.declared.link.TheConstants.{NO_LEVEL}
 use Rattle.ea_search.specs.Underway.{bound_of}
 use Rattle.ea_search.specs.Scans.{Step}
 use Rattle.ea_search.specs.Links.{link, no_link}
+use Rattle.ea_search.specs.Worklist.{Ring}
 
 -- Left at the bound of its tail, the arc arrives at the bound of its head, both within the horizon: `IsTight`
 -- for the bounds of a table, as the proofs use it.
@@ -62,6 +63,19 @@ pub record Offers
   pub free : unlinked links' ≤ unlinked links
   pub bounded : ((v : ℕ) (l : Link) → offer v l → l.level + unlinked links ≤ nodes) → IsBounded nodes links → IsBounded nodes links'
 
+-- Links were offered, and none of them precedes the link that its node now has. The waiting list keeps its room.
+pub record OffersEach
+    (nodes : ℕ)
+    (offer : ℕ → Link → Type 0)
+    (links : List Link)
+    (waiting : Ring)
+    (links' : List Link)
+    (waiting' : Ring)
+    : Type 0 where
+  pub offers : Offers nodes offer links waiting.waiting links' waiting'.waiting
+  pub passed : (v : ℕ) (l : Link) → offer v l → Precedes l (link links' v) → ⊥
+  pub room : waiting'.nodes ≡ waiting.nodes
+
 -- One link for one node.
 abbrev pub IsOne : ℕ → Link → ℕ → Link → Type 0
 IsOne v new w l = (w ≡ v) × (l ≡ new)
@@ -69,6 +83,10 @@ IsOne v new w l = (w ≡ v) × (l ≡ new)
 -- The links by tight arcs from a node at this level.
 abbrev pub IsSpread : Roads → (ℕ → ℕ → ℕ → ℕ → Type 0) → List ℕ → ℕ → ℕ → ℕ → Link → Type 0
 IsSpread roads answers table u level v l = (e : ℕ) × MeetsBound roads answers table u e v × (l ≡ record { level = level; arc = e; from = u })
+
+-- A link by its arc, for the node to which the arc is tight.
+abbrev pub IsAlong : Roads → (ℕ → ℕ → ℕ → ℕ → Type 0) → List ℕ → Link → ℕ → Link → Type 0
+IsAlong roads answers table new v l = MeetsBound roads answers table new.from new.arc v × (l ≡ new)
 
 -- No tight arc from the node is left to offer.
 abbrev pub IsSpent : Roads → (ℕ → ℕ → ℕ → ℕ → Type 0) → List ℕ → List Link → ℕ → ℕ → Type 0
@@ -94,3 +112,17 @@ pub record Linking
 -- Among this many first sources, each that departs at its node's label begins a walk.
 abbrev pub AreSown : List Source → List ℕ → List Link → ℕ → Type 0
 AreSown sources table links n = (k : ℕ) (d : Source) → k < n → (slice_index_or sources k d).departure ≡ bound_of table (slice_index_or sources k d).node → (link links (slice_index_or sources k d).node).level ≡ 0
+
+-- A source was linked: if it departs at its node's label, its node was offered the link that begins a walk, and
+-- is at level 0. Else nothing changed.
+pub record LinksSource
+    (table : List ℕ)
+    (source : Source)
+    (links : List Link)
+    (waiting : Ring)
+    (links' : List Link)
+    (waiting' : Ring)
+    : Type 0 where
+  pub seeds : source.departure ≡ bound_of table source.node → Offers waiting.nodes (IsOne source.node (record { level = 0; arc = 0; from = 0 })) links waiting.waiting links' waiting'.waiting × ((link links' source.node).level ≡ 0)
+  pub others : (source.departure ≡ bound_of table source.node → ⊥) → (links' ≡ links) × (waiting' ≡ waiting)
+  pub room : waiting'.nodes ≡ waiting.nodes

@@ -1,5 +1,5 @@
 -- Links during the replay of the log. They name an arc by its place among those that leave its tail, from 0.
-use Rattle.std.specs.Prelude.{◌≡◌, ◌≢◌, ℕ, ◌+◌, ◌<◌, ◌≤◌, min, true, false, List, length, Contains, ◌⊎◌}
+use Rattle.std.specs.Prelude.{◌≡◌, ◌≢◌, ℕ, ◌+◌, ◌<◌, ◌≤◌, min, Bool, true, false, IsTrue, List, length, Contains, ◌⊎◌}
 use Rattle.ea_road.specs.declared.source.Source.{Source}
 use Rattle.ea_road.specs.Roads.{Roads, leaving}
 use Rattle.ea_search.specs.declared.link.Link.{Link}
@@ -7,7 +7,9 @@ use Rattle.ea_search.specs.declared.link.TheConstants.{NO_LEVEL}
 use Rattle.ea_search.specs.declared.log.note.Note.{Note}
 use Rattle.ea_search.specs.Links.{link}
 use Rattle.ea_search.specs.Notes.{by_none, had_after, met_after}
+use Rattle.ea_search.specs.Worklist.{Ring}
 use Rattle.ea_paths.specs.Offers.{IsSeed, Precedes}
+use Rattle.ea_paths.specs.Places.{HavePlaces}
 use Rattle.ea_search.specs.Scans.{number_at}
 
 -- A link, with the number of its arc.
@@ -42,9 +44,35 @@ AreAfter roads sources table notes links waiting ties = AreReplayed roads source
 abbrev pub StayAfter : List Link → List ℕ → List (ℕ × ℕ) → List Link → List ℕ → List (ℕ × ℕ) → Type 0
 StayAfter links waiting ties links' waiting' ties' = (roads : Roads) (sources : List Source) (table : List ℕ) (notes : List Note) → AreAfter roads sources table notes links waiting ties → AreAfter roads sources table notes links' waiting' ties'
 
+-- Levels were passed on: links and waiting nodes keep their places and, unless the replay is given up, links that
+-- are after some notes still are.
+pub record PassesLevels
+    (nodes : ℕ)
+    (goes_on : Bool)
+    (links : List Link)
+    (waiting : Ring)
+    (ties : List (ℕ × ℕ))
+    (links' : List Link)
+    (waiting' : Ring)
+    (ties' : List (ℕ × ℕ))
+    : Type 0 where
+  pub places : HavePlaces nodes links' waiting'
+  pub stay : IsTrue goes_on → StayAfter links waiting.waiting ties links' waiting'.waiting ties'
+
 -- Each tail with which a node is listed waits.
 abbrev pub AreWoken : List (ℕ × ℕ) → ℕ → List ℕ → Type 0
 AreWoken ties node waiting = (u : ℕ) → Contains ties (node, u) → Contains waiting u
+
+-- Waiting nodes still wait and, unless the replay is given up, so does each tail with which a node is listed.
+pub record WakesTails (ties : List (ℕ × ℕ)) (node : ℕ) (goes_on : Bool) (waiting waiting' : Ring) : Type 0 where
+  pub room : waiting'.nodes ≡ waiting.nodes
+  pub kept : (v : ℕ) → Contains waiting.waiting v → Contains waiting'.waiting v
+  pub woken : IsTrue goes_on → AreWoken ties node waiting'.waiting
+
+-- Links and waiting nodes keep their places, and the list of ties stays.
+pub record KeepsTies (nodes : ℕ) (links' : List Link) (waiting' : Ring) (ties ties' : List (ℕ × ℕ)) : Type 0 where
+  pub places : HavePlaces nodes links' waiting'
+  pub list : ties' ≡ ties
 
 -- Two links with the same arc.
 abbrev pub HaveOneArc : Link → Link → Type 0

@@ -1,10 +1,93 @@
--- The arrays of a search by one thread.
-use Rattle.std.specs.Prelude.{◌≡◌, ℕ, Bool, IfSome, List, Option}
-use Rattle.ea_search.specs.Answers.{Answered}
-use Rattle.ea_search.specs.Listings.{CanSearch, Listing}
-use Rattle.ea_search.specs.Worklist.{Ring}
+-- The arrays of a search by one thread, and what it has after a query.
+use Rattle.std.specs.Prelude.{◌≡◌, ℕ, Bool, true, false, IfSome, List, [], Contains, Option, Some, length, map, replicate}
+use Rattle.ea_road.specs.declared.TheConstants.{NONE}
+use Rattle.ea_road.specs.Queries.{Asking, IsProblem}
+use Rattle.ea_road.specs.Roads.{Roads}
+use Rattle.ea_search.specs.Answers.{Answered, HasArrivals, IsAnswer}
+use Rattle.ea_search.specs.Frontiers.{HaveNone}
+use Rattle.ea_search.specs.Listings.{AreLabelsListed, CanSearch, IsListed, Listing, Searched, nothing}
+use Rattle.ea_search.specs.Notes.{AreHad}
+use Rattle.ea_search.specs.Scans.{AwaitsScans}
+use Rattle.ea_search.specs.Underway.{IsFinished}
+use Rattle.ea_search.specs.Worklist.{Ring, Worklist}
+use Rattle.ea_paths.specs.declared.search.Arrays.{Arrays}
 
 -- They can be reused, and arrays for led searches are for as many nodes.
 pub record IsSearch (waiting : Ring) (walks : Bool) (answer : Answered) (listing : Listing) (lists : List (List (ℕ × ℕ))) (guide : Option ℕ) : Type 0 where
   pub can : CanSearch waiting walks answer listing lists
   pub guide_fits : IfSome guide (λ nodes. nodes ≡ waiting.nodes)
+
+-- The arrays before a query: no node has a label or waits, and lists and log have no entry.
+pub record AreReset (nodes : ℕ) (walks : Bool) (arrays : Arrays) : Type 0 where
+  pub labels : arrays.table.items ≡ replicate nodes NONE
+  pub todo : arrays.todo ≡ record { nodes = nodes; waiting = []; walks = walks }
+  pub lists : (length arrays.lists.items ≡ 66) × HaveNone (map (λ l. l.items) arrays.lists.items)
+  pub listed : arrays.listed ≡ nothing
+  pub notes : arrays.notes ≡ []
+  pub guide : IfSome arrays.guide (λ guide. guide ≡ nodes)
+
+-- The arrays after a query, before the links are found: each node that has a label is listed, none waits, and
+-- lists have no entry.
+pub record AreLabelled (nodes : ℕ) (walks : Bool) (arrays : Arrays) : Type 0 where
+  pub labels : length arrays.table.items ≡ nodes
+  pub todo : arrays.todo ≡ record { nodes = nodes; waiting = []; walks = walks }
+  pub lists : (length arrays.lists.items ≡ 66) × HaveNone (map (λ l. l.items) arrays.lists.items)
+  pub listed : AreLabelsListed arrays.table.items (IsListed arrays.listed)
+  pub guide : IfSome arrays.guide (λ guide. guide ≡ nodes)
+
+-- The arrays got other labels: each node that has one is listed. Waiting nodes and lists stay.
+pub record GetLabels (nodes : ℕ) (arrays arrays' : Arrays) : Type 0 where
+  pub labels : length arrays'.table.items ≡ nodes
+  pub listed : AreLabelsListed arrays'.table.items (IsListed arrays'.listed)
+  pub guide : IfSome arrays'.guide (λ guide. guide ≡ nodes)
+  pub others : (arrays'.todo ≡ arrays.todo) × (arrays'.lists ≡ arrays.lists)
+
+-- No node has a label, and there is room for each node to wait: a search can begin.
+pub record CanBegin (nodes : ℕ) (labels : List ℕ) (had : ℕ → ℕ → ℕ → Type 0) (todo : Worklist) : Type 0 where
+  pub none : labels ≡ replicate nodes NONE
+  pub unmet : (v u k : ℕ) → had v u k → ⊥
+  pub room : todo.nodes ≡ nodes
+
+-- A search for a query ended: its labels are least, each node that has one is listed, and the arcs by which labels
+-- were had or met are told.
+pub record HasEnded
+    (roads : Roads)
+    (answers : ℕ → ℕ → ℕ → ℕ → Type 0)
+    (query : Asking)
+    (labels : List ℕ)
+    (met_by had_by : ℕ → ℕ → ℕ → Type 0)
+    (is_listed : ℕ → Type 0)
+    (todo : Worklist)
+    : Type 0 where
+  pub finished : IsFinished roads answers query labels todo
+  pub met : AwaitsScans roads answers query labels met_by (Contains [])
+  pub had : AreHad roads answers labels had_by
+  pub listed : AreLabelsListed labels is_listed
+
+-- The query of a pair, with its target.
+pub record AsksPair (roads : Roads) (classes : ℕ) (query : Asking) (target : ℕ) : Type 0 where
+  pub problem : IsProblem roads classes query
+  pub asks : query.target ≡ Some target
+
+-- A query, and arrays for the nodes of its network.
+pub record CanFind (roads : Roads) (classes : ℕ) (query : Asking) (search : Searched) : Type 0 where
+  pub problem : IsProblem roads classes query
+  pub nodes : search.nodes ≡ roads.nodes
+
+-- An answer without walks, which has these labels.
+pub record IsUnlinked (nodes : ℕ) (target : Option ℕ) (table : List ℕ) (answer : Answered) : Type 0 where
+  pub labels : answer.labels ≡ table
+  pub asked : (answer.nodes ≡ nodes) × (answer.target ≡ target)
+  pub none : answer.walks ≡ false
+
+-- The answer of a query, with walks if there is room for them.
+pub record HasFound
+    (roads : Roads)
+    (answers : ℕ → ℕ → ℕ → ℕ → Type 0)
+    (query : Asking)
+    (walks : Bool)
+    (search : Searched)
+    : Type 0 where
+  pub arrivals : HasArrivals roads answers query search.answer
+  pub answer : walks ≡ true → IsAnswer roads answers query search.answer
+  pub room : (search.nodes ≡ roads.nodes) × (search.walks ≡ walks)

@@ -1,7 +1,7 @@
 //! Changes of levels during the replay, passed on along links.
-ghost use Rattle.std.specs.Prelude.{◌≡◌, length, IsTrue};
 ghost use Rattle.ea_road.specs.Roads.{IsNode};
-ghost use Rattle.ea_paths.specs.Replayed.{StayAfter};
+ghost use Rattle.ea_paths.specs.Places.{HavePlaces};
+ghost use Rattle.ea_paths.specs.Replayed.{PassesLevels};
 
 use crate::log_replay::{place_of, relevel};
 use crate::ties::Ties;
@@ -17,11 +17,9 @@ fn pass_to_head(
     waiting: &mut Waiting,
     ties: &mut Ties,
 ) -> bool
-    requires places { length links.old ≡ waiting.old.nodes }
-    ensures places { length links.new ≡ length links.old }
-    ensures nodes { waiting.new.nodes ≡ waiting.old.nodes }
-    ensures stay { IsTrue result → StayAfter links.old waiting.old.waiting ties.old.list.items
-        links.new waiting.new.waiting ties.new.list.items }
+    requires { HavePlaces waiting.old.nodes links.old waiting.old }
+    ensures { PassesLevels waiting.old.nodes result links.old waiting.old ties.old.list.items
+        links.new waiting.new ties.new.list.items }
 {
     let Some(from) = place_of(node, links.len()) else {
         return false;
@@ -54,11 +52,9 @@ fn pass_to_heads(
     ties: &mut Ties,
 ) -> bool
     requires node { IsNode network.now.nodes node }
-    requires places { length links.old ≡ waiting.old.nodes }
-    ensures places { length links.new ≡ length links.old }
-    ensures nodes { waiting.new.nodes ≡ waiting.old.nodes }
-    ensures stay { IsTrue result → StayAfter links.old waiting.old.waiting ties.old.list.items
-        links.new waiting.new.waiting ties.new.list.items }
+    requires places { HavePlaces waiting.old.nodes links.old waiting.old }
+    ensures { PassesLevels waiting.old.nodes result links.old waiting.old ties.old.list.items
+        links.new waiting.new ties.new.list.items }
 {
     let arcs = network.leaving(node).arcs;
     for arc in arcs {
@@ -77,12 +73,9 @@ fn pass_on_all(
     waiting: &mut Waiting,
     ties: &mut Ties,
 ) -> bool
-    requires places { length links.old ≡ network.now.nodes }
-    requires nodes { waiting.old.nodes ≡ network.now.nodes }
-    ensures places { length links.new ≡ length links.old }
-    ensures nodes { waiting.new.nodes ≡ waiting.old.nodes }
-    ensures stay { IsTrue result → StayAfter links.old waiting.old.waiting ties.old.list.items
-        links.new waiting.new.waiting ties.new.list.items }
+    requires { HavePlaces network.now.nodes links.old waiting.old }
+    ensures { PassesLevels waiting.old.nodes result links.old waiting.old ties.old.list.items
+        links.new waiting.new ties.new.list.items }
 {
     'passing: for _ in 0..links.len() {
         let Some(node) = ties.changed.pop() else {
@@ -107,12 +100,9 @@ pub(crate) fn pass_on(
     waiting: &mut Waiting,
     ties: &mut Ties,
 ) -> bool
-    requires places { length links.old ≡ network.now.nodes }
-    requires nodes { waiting.old.nodes ≡ network.now.nodes }
-    ensures places { length links.new ≡ length links.old }
-    ensures nodes { waiting.new.nodes ≡ waiting.old.nodes }
-    ensures stay { IsTrue result → StayAfter links.old waiting.old.waiting ties.old.list.items
-        links.new waiting.new.waiting ties.new.list.items }
+    requires { HavePlaces network.now.nodes links.old waiting.old }
+    ensures { PassesLevels waiting.old.nodes result links.old waiting.old ties.old.list.items
+        links.new waiting.new ties.new.list.items }
 {
     if ties.changed.is_empty() {
         return true;

@@ -1,13 +1,13 @@
-ghost use Rattle.std.specs.Prelude.{◌≡◌, ℕ, ◌+◌, ◌<◌, ◌≤◌, [], true, false, List, length, replicate};
-ghost use Rattle.ea_base.specs.declared.limits.TheConstants.{HORIZON};
-ghost use Rattle.ea_road.specs.declared.source.Source.{Source};
+ghost use Rattle.std.specs.Prelude.{◌≡◌, ℕ, ◌+◌, ◌<◌, ◌≤◌, [], true, false, length};
 ghost use Rattle.ea_road.specs.Labels.{IsLabel, label_of};
 ghost use Rattle.ea_road.specs.Queries.{IsProblem};
-ghost use Rattle.ea_road.specs.Roads.{IsArc, IsNode, top_class};
+ghost use Rattle.ea_road.specs.Roads.{top_class};
 ghost use Rattle.ea_search.specs.Answers.{HasArrivals, IsAnswer};
 ghost use Rattle.ea_search.specs.Links.{AreLinks, AreStarts, link, no_link};
 ghost use Rattle.ea_road.specs.declared.TheConstants.{NONE};
-ghost use Rattle.ea_paths.specs.Offers.{IsOne, IsSpent, IsSpread, MeetsBound, Offers, Precedes};
+ghost use Rattle.ea_paths.specs.Linkable.{CanLink, CanOffer, CanSpread, HaveLinks, IsLinkBy};
+ghost use Rattle.ea_paths.specs.Offers.{IsAlong, IsOne, IsSpread, LinksSource, OffersEach};
+ghost use Rattle.ea_paths.specs.Places.{HasPlace, HaveNoLinks};
 ghost use Rattle.ea_search.specs.Underway.{IsFinished, bound_of};
 
 use crate::answer::Answer;
@@ -18,13 +18,10 @@ use ea_travel_times::TravelTimes;
 
 /// Offers a link to a node, which keeps the link of fewer arcs or, at a tie, of the lower arc number.
 fn relink(links: &mut [Link], waiting: &mut Waiting, node: u32, new: Link)
-    requires node { (0 < node) × (node ≤ waiting.old.nodes) }
+    requires place { HasPlace node links.old waiting.old }
     requires level { new.level < NO_LEVEL }
-    requires places { length links.old ≡ waiting.old.nodes }
-    ensures offers { Offers waiting.old.nodes (IsOne node new)
-        links.old waiting.old.waiting links.new waiting.new.waiting }
-    ensures passed { Precedes new (link links.new node) → ⊥ }
-    ensures nodes { waiting.new.nodes ≡ waiting.old.nodes }
+    ensures { OffersEach waiting.old.nodes (IsOne node new)
+        links.old waiting.old links.new waiting.new }
 {
     let place = node as usize - 1;
     let old = links[place];
@@ -47,21 +44,11 @@ pub(crate) fn pass<T: TravelTimes>(
     links: &mut [Link],
     waiting: &mut Waiting,
 )
-    requires arc { IsArc network.now new.arc arc }
-    requires tail { arc.tail ≡ new.from }
-    requires departure { (departure ≤ HORIZON) × (departure ≡ bound_of table.now new.from) }
-    requires level { new.level < NO_LEVEL }
-    requires classes { top_class network.now.arcs ≤ T.classes times.now }
-    requires places { (length table.now ≡ network.now.nodes)
-        × (length links.old ≡ network.now.nodes) }
-    requires nodes { waiting.old.nodes ≡ network.now.nodes }
-    ensures offers { Offers network.now.nodes
-        (IsSpread network.now (T.answers times.now) table.now new.from new.level)
-        links.old waiting.old.waiting links.new waiting.new.waiting }
-    ensures passed { (v : ℕ)
-        → MeetsBound network.now (T.answers times.now) table.now new.from new.arc v
-        → Precedes new (link links.new v) → ⊥ }
-    ensures nodes { waiting.new.nodes ≡ waiting.old.nodes }
+    requires can { CanOffer network.now (T.classes times.now) table.now links.old waiting.old }
+    requires link { IsLinkBy network.now table.now arc departure new }
+    ensures { OffersEach network.now.nodes
+        (IsAlong network.now (T.answers times.now) table.now new)
+        links.old waiting.old links.new waiting.new }
 {
     network.keeps_limits();
     let least = table[arc.head as usize - 1];
@@ -84,20 +71,12 @@ pub(crate) fn spread<T: TravelTimes>(
     links: &mut [Link],
     waiting: &mut Waiting,
 )
-    requires node { IsNode network.now.nodes node }
-    requires departure { bound_of table.now node ≤ HORIZON }
-    requires level { (link links.old node).level + 1 < NO_LEVEL }
-    requires classes { top_class network.now.arcs ≤ T.classes times.now }
-    requires places { (length table.now ≡ network.now.nodes)
-        × (length links.old ≡ network.now.nodes) }
-    requires nodes { waiting.old.nodes ≡ network.now.nodes }
-    ensures offers { Offers network.now.nodes
+    requires can { CanOffer network.now (T.classes times.now) table.now links.old waiting.old }
+    requires node { CanSpread network.now.nodes table.now links.old node }
+    ensures { OffersEach network.now.nodes
         (IsSpread network.now (T.answers times.now) table.now node
         ((link links.old node).level + 1))
-        links.old waiting.old.waiting links.new waiting.new.waiting }
-    ensures spent { IsSpent network.now (T.answers times.now) table.now links.new node
-        ((link links.old node).level + 1) }
-    ensures nodes { waiting.new.nodes ≡ waiting.old.nodes }
+        links.old waiting.old links.new waiting.new }
 {
     let departure = table[node as usize - 1];
     let level = links[node as usize - 1].level + 1;
@@ -125,16 +104,9 @@ pub(crate) fn spread<T: TravelTimes>(
 
 /// Links a source that departs at its node's label.
 pub(crate) fn sow(table: &[u64], source: Source, links: &mut [Link], waiting: &mut Waiting)
-    requires node { (0 < source.node) × (source.node ≤ waiting.old.nodes) }
-    requires places { (length table.now ≡ waiting.old.nodes)
-        × (length links.old ≡ waiting.old.nodes) }
-    ensures seeds { source.departure ≡ bound_of table.now source.node
-        → Offers waiting.old.nodes (IsOne source.node (record { level = 0; arc = 0; from = 0 }))
-        links.old waiting.old.waiting links.new waiting.new.waiting
-        × ((link links.new source.node).level ≡ 0) }
-    ensures others { (source.departure ≡ bound_of table.now source.node → ⊥)
-        → (links.new ≡ links.old) × (waiting.new ≡ waiting.old) }
-    ensures nodes { waiting.new.nodes ≡ waiting.old.nodes }
+    requires place { HasPlace source.node links.old waiting.old }
+    requires labels { length table.now ≡ waiting.old.nodes }
+    ensures { LinksSource table.now source links.old waiting.old links.new waiting.new }
 {
     if table[source.node as usize - 1] == source.departure {
         let seed = Link {
@@ -179,16 +151,10 @@ pub(crate) fn link_all<T: TravelTimes>(
     links: &mut [Link],
     waiting: &mut Waiting,
 )
-    requires classes { top_class network.now.arcs ≤ T.classes times.now }
-    requires sources { AreStarts network.now.nodes sources.now }
-    requires places { length table.now ≡ network.now.nodes }
-    requires nobody { waiting.old.waiting ≡ [] }
-    requires nodes { waiting.old.nodes ≡ network.now.nodes }
-    requires none { links.old ≡ replicate network.now.nodes no_link }
-    ensures links { AreLinks network.now (T.answers times.now) sources.now
-        (IsLabel (label_of table.now)) links.new }
-    ensures nobody { waiting.new.waiting ≡ [] }
-    ensures nodes { waiting.new.nodes ≡ waiting.old.nodes }
+    requires can { CanLink network.now (T.classes times.now) sources.now table.now }
+    requires none { HaveNoLinks network.now.nodes links.old waiting.old }
+    ensures linked { HaveLinks network.now (T.answers times.now) sources.now table.now
+        links.new waiting.new }
     ensures labelled { (node : ℕ) → bound_of table.now node ≡ NONE
         → link links.new node ≡ no_link }
 {

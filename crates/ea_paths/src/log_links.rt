@@ -1,16 +1,14 @@
 //! Links from the log of a search: its notes are replayed, and the links repaired.
-ghost use Rattle.std.specs.Prelude.{◌≡◌, ◌≢◌, ◌⊎◌, ℕ, ◌<◌, ◌≤◌, [], false, true, length, replicate, Contains, IfSome, IsTrue, None};
+ghost use Rattle.std.specs.Prelude.{◌≡◌, ◌<◌, length, IfSome, IsTrue, None};
 ghost use Rattle.ea_road.specs.Queries.{IsProblem};
-ghost use Rattle.ea_road.specs.declared.TheConstants.{NONE};
-ghost use Rattle.ea_road.specs.Labels.{IsLabel, label_of};
-ghost use Rattle.ea_road.specs.Roads.{top_class};
-ghost use Rattle.ea_search.specs.Links.{AreLinks, AreStarts, link, no_link};
+ghost use Rattle.ea_search.specs.Links.{AreStarts, link};
+ghost use Rattle.ea_search.specs.Notes.{notes_in};
+ghost use Rattle.ea_search.specs.Scans.{IsPlaced};
+ghost use Rattle.ea_paths.specs.Linkable.{CanLink, HaveLinks, LinksSources};
+ghost use Rattle.ea_paths.specs.Logs.{AreNotesOf, IsLogOf};
 ghost use Rattle.ea_paths.specs.Mended.{AreReady};
-ghost use Rattle.ea_search.specs.Notes.{AreHad, by_none, had_after, met_after, notes_in};
-ghost use Rattle.ea_paths.specs.Offers.{AreSown, Offers};
-ghost use Rattle.ea_paths.specs.Replayed.{AreSettled, IsSeedLink};
-ghost use Rattle.ea_search.specs.Scans.{AwaitsScans, IsPlaced, MeetsAll};
-ghost use Rattle.ea_search.specs.Underway.{bound_of};
+ghost use Rattle.ea_paths.specs.Places.{HaveNoLinks, HavePlaces};
+ghost use Rattle.ea_paths.specs.Replayed.{AreSettled};
 
 use crate::link_search::{link_all, sow};
 use crate::log_replay::{number_of, replay};
@@ -25,11 +23,8 @@ fn sow_all(table: &[u64], sources: &[Source], links: &mut [Link], waiting: &mut 
     requires sources { AreStarts waiting.old.nodes sources.now }
     requires places { (length table.now ≡ waiting.old.nodes)
         × (length links.old ≡ waiting.old.nodes) }
-    ensures places { length links.new ≡ length links.old }
-    ensures nodes { waiting.new.nodes ≡ waiting.old.nodes }
-    ensures sown { AreSown sources.now table.now links.new (length sources.now) }
-    ensures offers { Offers waiting.old.nodes (IsSeedLink sources.now table.now)
-        links.old waiting.old.waiting links.new waiting.new.waiting }
+    ensures { LinksSources sources.now table.now (length sources.now)
+        links.old waiting.old links.new waiting.new }
 {
     for source in sources {
         sow(table, *source, links, waiting);
@@ -40,8 +35,8 @@ fn sow_all(table: &[u64], sources: &[Source], links: &mut [Link], waiting: &mut 
 fn number_above_tail(network: &Network, links: &[Link], old: Link) -> Option<u32>
     requires by_arc { 0 < old.from }
     requires places { length links.now ≡ network.now.nodes }
-    ensures placed { IfSome result (λ number. IsPlaced network.now old.from old.arc number) }
-    ensures lower { IfSome result (λ number. (link links.now old.from).level < old.level) }
+    ensures { IfSome result (λ number. IsPlaced network.now old.from old.arc number
+        × ((link links.now old.from).level < old.level)) }
 {
     if old.from > network.nodes() {
         return None;
@@ -57,8 +52,8 @@ fn number_above_tail(network: &Network, links: &[Link], old: Link) -> Option<u32
 fn settle(network: &Network, links: &mut [Link]) -> bool
     requires places { length links.old ≡ network.now.nodes }
     ensures places { length links.new ≡ length links.old }
-    ensures settled { IsTrue result → AreSettled network.now links.old links.new }
-    ensures ready { IsTrue result → AreReady links.new }
+    ensures settled { IsTrue result
+        → AreSettled network.now links.old links.new × AreReady links.new }
 {
     for place in 0..links.len() {
         let old = links[place];
@@ -90,22 +85,13 @@ fn link_by_notes<T: TravelTimes>(
     waiting: &mut Waiting,
     ties: &mut Ties,
 ) -> bool
-    requires classes { top_class network.now.arcs ≤ T.classes times.now }
-    requires sources { AreStarts network.now.nodes sources.now }
-    requires places { length noted.now.labels.items ≡ network.now.nodes }
-    requires nobody { waiting.old.waiting ≡ [] }
-    requires nodes { waiting.old.nodes ≡ network.now.nodes }
-    requires none { links.old ≡ replicate network.now.nodes no_link }
-    requires had { AreHad network.now (T.answers times.now) noted.now.labels.items
-        (had_after (notes_in noted.now.notes) by_none) }
-    requires met { (node : ℕ) → bound_of noted.now.labels.items node ≢ NONE
-        → MeetsAll network.now (T.answers times.now) noted.now.labels.items
-        (met_after (notes_in noted.now.notes) by_none) node (bound_of noted.now.labels.items node) }
-    ensures places { length links.new ≡ length links.old }
-    ensures nodes { waiting.new.nodes ≡ waiting.old.nodes }
-    ensures nobody { IsTrue result → waiting.new.waiting ≡ [] }
-    ensures links { IsTrue result → AreLinks network.now (T.answers times.now) sources.now
-        (IsLabel (label_of noted.now.labels.items)) links.new }
+    requires can { CanLink network.now (T.classes times.now) sources.now noted.now.labels.items }
+    requires none { HaveNoLinks network.now.nodes links.old waiting.old }
+    requires notes { AreNotesOf network.now (T.answers times.now) noted.now.labels.items
+        (notes_in noted.now.notes) }
+    ensures places { HavePlaces network.now.nodes links.new waiting.new }
+    ensures linked { IsTrue result → HaveLinks network.now (T.answers times.now) sources.now
+        noted.now.labels.items links.new waiting.new }
 {
     network.keeps_limits();
     let table: &[u64] = &noted.labels;
@@ -133,19 +119,10 @@ pub(crate) fn link_noted<T: TravelTimes>(
 )
     requires problem { IsProblem network.now (T.classes times.now) query.now }
     requires all { query.now.target ≡ None }
-    requires places { length noted.now.labels.items ≡ network.now.nodes }
-    requires nobody { waiting.old.waiting ≡ [] }
-    requires nodes { waiting.old.nodes ≡ network.now.nodes }
-    requires none { links.old ≡ replicate network.now.nodes no_link }
-    requires met { AwaitsScans network.now (T.answers times.now) query.now noted.now.labels.items
-        (λ v u k. (noted.now.whole ≡ false) ⊎ met_after (notes_in noted.now.notes) by_none v u k)
-        (Contains []) }
-    requires had { AreHad network.now (T.answers times.now) noted.now.labels.items
-        (λ v u k. (noted.now.whole ≡ true) × had_after (notes_in noted.now.notes) by_none v u k) }
-    ensures links { AreLinks network.now (T.answers times.now) query.now.sources
-        (IsLabel (label_of noted.now.labels.items)) links.new }
-    ensures nobody { waiting.new.waiting ≡ [] }
-    ensures nodes { waiting.new.nodes ≡ waiting.old.nodes }
+    requires none { HaveNoLinks network.now.nodes links.old waiting.old }
+    requires log { IsLogOf network.now (T.answers times.now) query.now noted.now }
+    ensures linked { HaveLinks network.now (T.answers times.now) query.now.sources
+        noted.now.labels.items links.new waiting.new }
 {
     let sources = query.sources();
     if noted.tell() {

@@ -1,10 +1,11 @@
 //! Replaying the log of a search: each note's node gets a link with the note's arc.
-ghost use Rattle.std.specs.Prelude.{◌≡◌, ◌≢◌, ℕ, ◌-◌, ◌<◌, ◌≤◌, Contains, IfSome, List, length, IsTrue};
+ghost use Rattle.std.specs.Prelude.{◌≡◌, ℕ, ◌-◌, ◌<◌, Contains, IfSome, List, IsTrue};
 ghost use Rattle.ea_road.specs.declared.source.Source.{Source};
 ghost use Rattle.ea_road.specs.Roads.{Roads};
 ghost use Rattle.ea_search.specs.Links.{link};
 ghost use Rattle.ea_search.specs.Notes.{by_none, notes_in};
-ghost use Rattle.ea_paths.specs.Replayed.{AreAfter, AreReplayed, HaveOneArc, IsFollowed, IsReachedAgain};
+ghost use Rattle.ea_paths.specs.Places.{HasPlace, HavePlaces, IsLaterNode};
+ghost use Rattle.ea_paths.specs.Replayed.{AreAfter, AreReplayed, HaveOneArc, IsFollowed, IsReachedAgain, KeepsTies};
 ghost use Rattle.ea_search.specs.Scans.{IsPlaced};
 
 use crate::level_updates::pass_on;
@@ -39,13 +40,10 @@ pub(crate) fn relevel(
     waiting: &mut Waiting,
     ties: &mut Ties,
 ) -> bool
-    requires node { (0 < node) × (node ≤ waiting.old.nodes) }
-    requires places { length links.old ≡ waiting.old.nodes }
-    requires level { (link links.old node).level ≢ 0 }
+    requires node { IsLaterNode node links.old waiting.old }
     requires same { HaveOneArc (link links.old node) new }
-    ensures places { length links.new ≡ length links.old }
-    ensures nodes { waiting.new.nodes ≡ waiting.old.nodes }
-    ensures list { ties.new.list.items ≡ ties.old.list.items }
+    ensures kept { KeepsTies waiting.old.nodes links.new waiting.new
+        ties.old.list.items ties.new.list.items }
     ensures reached { IsTrue result → (roads : Roads)
         → IsReachedAgain roads node new links.old waiting.old.waiting ties.old.list.items
         links.new waiting.new.waiting ties.new.list.items }
@@ -73,12 +71,9 @@ fn choose(
     waiting: &mut Waiting,
     ties: &mut Ties,
 ) -> bool
-    requires node { (0 < node) × (node ≤ waiting.old.nodes) }
-    requires places { length links.old ≡ waiting.old.nodes }
-    requires level { (link links.old node).level ≢ 0 }
-    ensures places { length links.new ≡ length links.old }
-    ensures nodes { waiting.new.nodes ≡ waiting.old.nodes }
-    ensures list { ties.new.list.items ≡ ties.old.list.items }
+    requires { IsLaterNode node links.old waiting.old }
+    ensures kept { KeepsTies waiting.old.nodes links.new waiting.new
+        ties.old.list.items ties.new.list.items }
     ensures reached { IsTrue result → (before after : List (ℕ × ℕ))
         → ((tie : ℕ × ℕ) → Contains before tie → Contains after tie)
         → Contains after (node, new.from) → Contains after (node, (link links.old node).from)
@@ -117,11 +112,9 @@ fn tie(
     waiting: &mut Waiting,
     ties: &mut Ties,
 ) -> bool
-    requires node { (0 < node) × (node ≤ waiting.old.nodes) }
-    requires places { length links.old ≡ waiting.old.nodes }
+    requires place { HasPlace node links.old waiting.old }
     requires level { 0 < new.level }
-    ensures places { length links.new ≡ length links.old }
-    ensures nodes { waiting.new.nodes ≡ waiting.old.nodes }
+    ensures places { HavePlaces waiting.old.nodes links.new waiting.new }
     ensures reached { IsTrue result → IsReachedAgain network.now node new
         links.old waiting.old.waiting ties.old.list.items
         links.new waiting.new.waiting ties.new.list.items }
@@ -161,10 +154,8 @@ fn follow_note(
     waiting: &mut Waiting,
     ties: &mut Ties,
 ) -> bool
-    requires places { length links.old ≡ network.now.nodes }
-    requires nodes { waiting.old.nodes ≡ network.now.nodes }
-    ensures places { length links.new ≡ length links.old }
-    ensures nodes { waiting.new.nodes ≡ waiting.old.nodes }
+    requires { HavePlaces network.now.nodes links.old waiting.old }
+    ensures places { HavePlaces network.now.nodes links.new waiting.new }
     ensures followed { IsTrue result → IsFollowed network.now note
         links.old waiting.old.waiting ties.old.list.items
         links.new waiting.new.waiting ties.new.list.items }
@@ -200,10 +191,8 @@ pub(crate) fn replay(
     waiting: &mut Waiting,
     ties: &mut Ties,
 ) -> bool
-    requires places { length links.old ≡ network.now.nodes }
-    requires nodes { waiting.old.nodes ≡ network.now.nodes }
-    ensures places { length links.new ≡ length links.old }
-    ensures nodes { waiting.new.nodes ≡ waiting.old.nodes }
+    requires { HavePlaces network.now.nodes links.old waiting.old }
+    ensures places { HavePlaces network.now.nodes links.new waiting.new }
     ensures replayed { IsTrue result → (sources : List Source) (table : List ℕ)
         → AreReplayed network.now sources table by_none by_none links.old waiting.old.waiting
         → AreAfter network.now sources table (notes_in notes.now)

@@ -1,10 +1,8 @@
 //! Repairing links: those by arcs from nodes whose levels fell.
-ghost use Rattle.std.specs.Prelude.{◌≡◌, ℕ, ◌+◌, ◌<◌, ◌≤◌, [], List, length, IsTrue};
-ghost use Rattle.ea_road.specs.declared.source.Source.{Source};
-ghost use Rattle.ea_road.specs.Roads.{IsNode, top_class};
-ghost use Rattle.ea_paths.specs.Mended.{AreMended, AreReady, IsReady};
-ghost use Rattle.ea_search.specs.Links.{link};
-ghost use Rattle.ea_paths.specs.Offers.{IsSpent, IsSpread, Offers};
+ghost use Rattle.std.specs.Prelude.{◌≡◌, [], IsTrue};
+ghost use Rattle.ea_road.specs.Roads.{IsNode};
+ghost use Rattle.ea_paths.specs.Linkable.{CanOffer};
+ghost use Rattle.ea_paths.specs.Mended.{AreReady, KeepsMended, MendsNode};
 
 use crate::link_search::spread;
 use ea_base::HORIZON;
@@ -24,20 +22,10 @@ fn mend<T: TravelTimes>(
     links: &mut [Link],
     waiting: &mut Waiting,
 ) -> bool
+    requires can { CanOffer network.now (T.classes times.now) table.now links.old waiting.old }
     requires node { IsNode network.now.nodes node }
-    requires classes { top_class network.now.arcs ≤ T.classes times.now }
-    requires places { (length table.now ≡ network.now.nodes)
-        × (length links.old ≡ network.now.nodes) }
-    requires nodes { waiting.old.nodes ≡ network.now.nodes }
-    ensures offers { Offers network.now.nodes
-        (IsSpread network.now (T.answers times.now) table.now node
-        ((link links.old node).level + 1))
-        links.old waiting.old.waiting links.new waiting.new.waiting }
-    ensures spent { (link links.old node).level + 1 < NO_LEVEL
-        → IsSpent network.now (T.answers times.now) table.now links.new node
-        ((link links.old node).level + 1) }
-    ensures nodes { waiting.new.nodes ≡ waiting.old.nodes }
-    ensures ready { IsTrue result → IsReady (link links.old node) }
+    ensures { MendsNode network.now (T.answers times.now) table.now node result
+        links.old waiting.old links.new waiting.new }
 {
     let time = table[node as usize - 1];
     let level = links[node as usize - 1].level;
@@ -59,20 +47,11 @@ pub(crate) fn mend_waiting<T: TravelTimes>(
     links: &mut [Link],
     waiting: &mut Waiting,
 ) -> bool
-    requires classes { top_class network.now.arcs ≤ T.classes times.now }
-    requires places { (length table.now ≡ network.now.nodes)
-        × (length links.old ≡ network.now.nodes) }
-    requires nodes { waiting.old.nodes ≡ network.now.nodes }
-    ensures places { length links.new ≡ length links.old }
-    ensures nodes { waiting.new.nodes ≡ waiting.old.nodes }
-    ensures mended { (sources : List Source)
-        → AreMended network.now (T.answers times.now) sources table.now
-        links.old waiting.old.waiting
-        → AreMended network.now (T.answers times.now) sources table.now
-        links.new waiting.new.waiting }
-    ensures lower { (v : ℕ) → (link links.new v).level ≤ (link links.old v).level }
-    ensures nobody { IsTrue result → waiting.new.waiting ≡ [] }
-    ensures ready { AreReady links.old → IsTrue result → AreReady links.new }
+    requires { CanOffer network.now (T.classes times.now) table.now links.old waiting.old }
+    ensures kept { KeepsMended network.now (T.answers times.now) table.now
+        links.old waiting.old links.new waiting.new }
+    ensures done { IsTrue result
+        → (waiting.new.waiting ≡ []) × (AreReady links.old → AreReady links.new) }
 {
     'mending: for _ in 0..links.len() / PART + 1 {
         let Some(node) = waiting.take() else {

@@ -1,13 +1,9 @@
 //! The arrays of searches by one thread, reused from query to query.
-ghost use Rattle.std.specs.Prelude.{◌≡◌, ℕ, [], true, false, None, Contains, length, map, replicate, if◌then◌else◌, IfOk, IfSome};
+ghost use Rattle.std.specs.Prelude.{◌≡◌, true, false, None, length, map, if◌then◌else◌, IfOk};
 ghost use Rattle.ea_road.specs.Queries.{IsProblem};
-ghost use Rattle.ea_road.specs.declared.TheConstants.{NONE};
 ghost use Rattle.ea_search.specs.Answers.{HasArrivals, IsAnswer};
 ghost use Rattle.ea_search.specs.Frontiers.{HaveNone};
-ghost use Rattle.ea_search.specs.Listings.{AreLabelsListed, nothing};
-ghost use Rattle.ea_search.specs.Notes.{AreHad};
-ghost use Rattle.ea_search.specs.Scans.{AwaitsScans};
-ghost use Rattle.ea_search.specs.Underway.{IsFinished};
+ghost use Rattle.ea_paths.specs.Searches.{AreReset, CanBegin, CanFind, HasEnded, HasFound};
 
 mod led;
 
@@ -105,19 +101,13 @@ fn find<T: TravelTimes, L: Table>(
     table: &mut L,
 ) -> (Vec<Vec<(u64, u32)>>, Open)
     requires problem { IsProblem network.now (T.classes times.now) query.now }
-    requires labels { L.labels table.old ≡ replicate network.now.nodes NONE }
-    requires room { todo.nodes ≡ network.now.nodes }
+    requires begins { CanBegin network.now.nodes (L.labels table.old) (L.had table.old) todo }
     requires lists { (length lists.items ≡ 66) × HaveNone (map (λ l. l.items) lists.items) }
-    requires had { (v u k : ℕ) → L.had table.old v u k → ⊥ }
-    ensures finished { IsFinished network.now (T.answers times.now) query.now
-        (L.labels table.new) result.1 }
-    ensures met { AwaitsScans network.now (T.answers times.now) query.now
-        (L.labels table.new) (L.met table.new) (Contains []) }
-    ensures had { AreHad network.now (T.answers times.now) (L.labels table.new) (L.had table.new) }
+    ensures ended { HasEnded network.now (T.answers times.now) query.now
+        (L.labels table.new) (L.met table.new) (L.had table.new) (L.lists table.new) result.1 }
     ensures walks { result.1.walks ≡ todo.walks }
     ensures lists { (length result.0.items ≡ 66)
         × HaveNone (map (λ l. l.items) result.0.items) }
-    ensures listed { AreLabelsListed (L.labels table.new) (L.lists table.new) }
 {
     let mut frontier = Frontier::over(lists, todo, width);
     search(network, times, query, table, &mut frontier);
@@ -183,14 +173,7 @@ impl Search {
 
     /// The arrays, reset.
     fn into_arrays(self) -> Arrays
-        ensures labels { result.table.items ≡ replicate self.nodes NONE }
-        ensures todo { result.todo
-            ≡ record { nodes = self.nodes; waiting = []; walks = self.walks } }
-        ensures lists { (length result.lists.items ≡ 66)
-            × HaveNone (map (λ l. l.items) result.lists.items) }
-        ensures listed { result.listed ≡ nothing }
-        ensures notes { result.notes ≡ [] }
-        ensures guide { IfSome result.guide (λ guide. guide ≡ self.nodes) }
+        ensures { AreReset self.nodes self.walks result }
     {
         let Search {
             answer,
@@ -277,12 +260,10 @@ impl Search {
 
     /// The walks to all nodes, from the log of the search.
     fn find_all_walks<T: TravelTimes>(self, network: &Network, times: &T, query: &Query) -> Search
-        requires problem { IsProblem network.now (T.classes times.now) query.now }
-        requires all { query.now.target ≡ None }
-        requires nodes { self.nodes ≡ network.now.nodes }
+        requires can { CanFind network.now (T.classes times.now) query.now self }
         requires walks { self.walks ≡ true }
-        ensures answer { IsAnswer network.now (T.answers times.now) query.now result.answer }
-        ensures room { (result.nodes ≡ self.nodes) × (result.walks ≡ true) }
+        requires all { query.now.target ≡ None }
+        ensures { HasFound network.now (T.answers times.now) query.now true result }
     {
         let Arrays {
             table,
@@ -323,11 +304,9 @@ impl Search {
 
     /// The walk to the target of a pair.
     fn find_pair_walk<T: TravelTimes>(self, network: &Network, times: &T, query: &Query) -> Search
-        requires problem { IsProblem network.now (T.classes times.now) query.now }
-        requires nodes { self.nodes ≡ network.now.nodes }
+        requires can { CanFind network.now (T.classes times.now) query.now self }
         requires walks { self.walks ≡ true }
-        ensures answer { IsAnswer network.now (T.answers times.now) query.now result.answer }
-        ensures room { (result.nodes ≡ self.nodes) × (result.walks ≡ true) }
+        ensures { HasFound network.now (T.answers times.now) query.now true result }
     {
         let Arrays {
             table,

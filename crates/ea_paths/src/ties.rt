@@ -1,6 +1,6 @@
 //! Lists for the replay: nodes with several arcs at their labels, and nodes whose level changed.
-ghost use Rattle.std.specs.Prelude.{◌≡◌, ℕ, ◌∷◌, ◌++◌, [], length, Contains, IsTrue};
-ghost use Rattle.ea_paths.specs.Replayed.{AreWoken};
+ghost use Rattle.std.specs.Prelude.{◌≡◌, ◌∷◌, ◌++◌, [], length, IsTrue};
+ghost use Rattle.ea_paths.specs.Replayed.{WakesTails};
 
 use ea_search::Waiting;
 use std::alloc::Global;
@@ -78,9 +78,7 @@ impl Ties {
     /// spent.
     pub(crate) fn rise(&mut self, node: u32, waiting: &mut Waiting) -> bool
         ensures list { self.new.list.items ≡ self.old.list.items }
-        ensures nodes { waiting.new.nodes ≡ waiting.old.nodes }
-        ensures kept { (v : ℕ) → Contains waiting.old.waiting v → Contains waiting.new.waiting v }
-        ensures woken { IsTrue result → AreWoken self.old.list.items node waiting.new.waiting }
+        ensures woken { WakesTails self.old.list.items node result waiting.old waiting.new }
     {
         for tie in &self.list {
             if tie.0 == node {

@@ -1,13 +1,12 @@
 //! Searches of pairs that are led by bounds over a prepared road.
-ghost use Rattle.std.specs.Prelude.{◌≡◌, ℕ, [], true, false, IfSome, Some, length, map, replicate};
+ghost use Rattle.std.specs.Prelude.{◌≡◌, true, IfSome, length, replicate};
 ghost use Rattle.ea_road.specs.declared.TheConstants.{NONE};
 ghost use Rattle.ea_road.specs.Labels.{label_of};
 ghost use Rattle.ea_road.specs.Queries.{IsProblem};
 ghost use Rattle.ea_search.specs.Answers.{HasArrivals, IsAnswer};
-ghost use Rattle.ea_search.specs.Frontiers.{HaveNone};
-ghost use Rattle.ea_search.specs.Listings.{AreLabelsListed, IsListed};
 ghost use Rattle.ea_hierarchy.specs.Preparations.{IsPreparedFor};
 ghost use Rattle.ea_goal.specs.Led.{IsLedTo};
+ghost use Rattle.ea_paths.specs.Searches.{AreLabelled, AsksPair, CanFind, GetLabels, HasFound, IsUnlinked};
 
 use crate::answer::Answer;
 use crate::link_search::link_all;
@@ -21,15 +20,8 @@ use std::alloc::Global;
 
 /// The search with the labels of its arrays as an answer without walks.
 fn unlinked(arrays: Arrays, nodes: u32, target: Option<u32>, walks: bool) -> Search
-    requires todo { arrays.todo ≡ record { nodes = nodes; waiting = []; walks = walks } }
-    requires labels { length arrays.table.items ≡ nodes }
-    requires lists { (length arrays.lists.items ≡ 66)
-        × HaveNone (map (λ l. l.items) arrays.lists.items) }
-    requires listed { AreLabelsListed arrays.table.items (IsListed arrays.listed) }
-    requires guide { IfSome arrays.guide (λ guide. guide ≡ nodes) }
-    ensures labels { result.answer.labels ≡ arrays.table.items }
-    ensures asked { (result.answer.nodes ≡ nodes) × (result.answer.target ≡ target) }
-    ensures none { result.answer.walks ≡ false }
+    requires { AreLabelled nodes walks arrays }
+    ensures answer { IsUnlinked nodes target arrays.table.items result.answer }
     ensures room { (result.nodes ≡ nodes) × (result.walks ≡ walks) }
 {
     let Arrays {
@@ -62,18 +54,11 @@ fn linked<T: TravelTimes>(
     query: &Query,
     target: u32,
 ) -> Search
-    requires problem { IsProblem network.now (T.classes times.now) query.now }
-    requires target { query.now.target ≡ Some target }
-    requires todo { arrays.todo ≡ record { nodes = network.now.nodes; waiting = []; walks = true } }
-    requires labels { length arrays.table.items ≡ network.now.nodes }
-    requires lists { (length arrays.lists.items ≡ 66)
-        × HaveNone (map (λ l. l.items) arrays.lists.items) }
-    requires listed { AreLabelsListed arrays.table.items (IsListed arrays.listed) }
-    requires guide { IfSome arrays.guide (λ guide. guide ≡ network.now.nodes) }
+    requires pair { AsksPair network.now (T.classes times.now) query.now target }
+    requires labelled { AreLabelled network.now.nodes true arrays }
     requires led { IsLedTo network.now (T.answers times.now) query.now.sources target
         (label_of arrays.table.items) }
-    ensures answer { IsAnswer network.now (T.answers times.now) query.now result.answer }
-    ensures room { (result.nodes ≡ network.now.nodes) × (result.walks ≡ true) }
+    ensures { HasFound network.now (T.answers times.now) query.now true result }
 {
     let Arrays {
         table,
@@ -121,17 +106,13 @@ fn lead_arrays<T: TravelTimes>(
     query: &Query,
     target: u32,
 ) -> (Arrays, bool)
-    requires problem { IsProblem network.now (T.classes times.now) query.now }
-    requires target { query.now.target ≡ Some target }
+    requires pair { AsksPair network.now (T.classes times.now) query.now target }
     requires prepared { IsPreparedFor network.now (T.answers times.now) prepared.now }
     requires guide { guide ≡ network.now.nodes }
     requires labels { arrays.table.items ≡ replicate network.now.nodes NONE }
-    ensures count { length result.0.table.items ≡ network.now.nodes }
-    ensures listed { AreLabelsListed result.0.table.items (IsListed result.0.listed) }
+    ensures labels { GetLabels network.now.nodes arrays result.0 }
     ensures led { result.1 ≡ true → IsLedTo network.now (T.answers times.now)
         query.now.sources target (label_of result.0.table.items) }
-    ensures guide { IfSome result.0.guide (λ guide. guide ≡ network.now.nodes) }
-    ensures others { (result.0.todo ≡ arrays.todo) × (result.0.lists ≡ arrays.lists) }
 {
     let Arrays {
         table,
@@ -215,14 +196,10 @@ impl Search {
         query: &Query,
         target: u32,
     ) -> Search
-        requires problem { IsProblem network.now (T.classes times.now) query.now }
+        requires pair { AsksPair network.now (T.classes times.now) query.now target }
         requires nodes { self.nodes ≡ network.now.nodes }
         requires prepared { IsPreparedFor network.now (T.answers times.now) prepared.now }
-        requires target { query.now.target ≡ Some target }
-        ensures arrivals { HasArrivals network.now (T.answers times.now) query.now result.answer }
-        ensures answer { self.walks ≡ true
-            → IsAnswer network.now (T.answers times.now) query.now result.answer }
-        ensures room { (result.nodes ≡ self.nodes) × (result.walks ≡ self.walks) }
+        ensures { HasFound network.now (T.answers times.now) query.now self.walks result }
     {
         let walks = self.walks;
         let nodes = network.nodes();

@@ -1,11 +1,10 @@
-use Rattle.std.proofs.Common.{◌≡◌, length}
+use Rattle.ea_paths.specs.Places.{HavePlaces}
 use Rattle.ea_paths.specs.Replayed.{StayAfter}
 use Rattle.ea_paths.proofs.level_updates.pass_on_all.Given as goal
 
 -- what was passed on so far
 abbrev pub invariant-passing : goal.invariant-passing
 invariant-passing l = record {
-  places : length l.links ≡ length l.initial.links;
-  nodes : l.waiting.nodes ≡ l.initial.waiting.nodes;
+  places : HavePlaces l.initial.waiting.nodes l.links l.waiting;
   stay : StayAfter l.initial.links l.initial.waiting.waiting l.initial.ties.list.items l.links l.waiting.waiting l.ties.list.items;
 }

@@ -16,14 +16,16 @@ read links node place nodes count at same = ap (λ (k : ℕ). get_or links k emp
 
 pub relevel-requires-clause-node : goal.relevel-requires-clause-node
 relevel-requires-clause-node c =
-    let at : (0 < c.args.head) × (c.in-Some-place_of.at ≡ c.args.head - 1) × (c.in-Some-place_of.at < length c.args.links.now) = c.in-Some-place_of.ensures in
-    (at.0, omega (arith, at.0, at.1, at.2, c.requires.places))
-
-pub relevel-requires-clause-level : goal.relevel-requires-clause-level
-relevel-requires-clause-level c = λ none.
     let links = c.args.links.now in
-    let old = read links c.args.head c.in-Some-place_of.at 0 (length links) c.in-Some-place_of.ensures refl in
-    c.if-old-eq0.false (ap (λ (l : Link). l.level) old ∙ none)
+    let at : (0 < c.args.head) × (c.in-Some-place_of.at ≡ c.args.head - 1) × (c.in-Some-place_of.at < length links) = c.in-Some-place_of.ensures in
+    let old = read links c.args.head c.in-Some-place_of.at 0 (length links) at refl in
+    record {
+      place = record {
+        is_node = record { from_one = at.0; to_last = omega (arith, at.0, at.1, at.2, c.requires.places) };
+        places = c.requires.places;
+      };
+      level = λ none. c.if-old-eq0.false (ap (λ (l : Link). l.level) old ∙ none);
+    }
 
 pub relevel-requires-clause-same : goal.relevel-requires-clause-same
 relevel-requires-clause-same c =
@@ -31,17 +33,20 @@ relevel-requires-clause-same c =
     let old = sym (read links c.args.head c.in-Some-place_of.at 0 (length links) c.in-Some-place_of.ensures refl) in
     (ap (λ (l : Link). l.from) old ∙ c.if-old-node.false, ap (λ (l : Link). l.arc) old)
 
-pub returns-clause-stay : goal.returns-clause-stay
-returns-clause-stay c = λ yes roads sources table notes before.
-    let links = c.args.links.now in
-    let tail : (0 < c.args.node) × (c.in-Some.from ≡ c.args.node - 1) × (c.in-Some.from < length links) = c.in-Some.ensures in
-    let old = read links c.args.head c.in-Some-place_of.at 0 (length links) c.in-Some-place_of.ensures refl in
-    let level = ap (λ (l : Link). l.level) old in
-    let arc = (get_or links c.in-Some-place_of.at empty).arc in
-    let note : Note = record { node = c.args.head; from = c.args.node; place = arc; again = true } in
-    let made : Link = record { level = c.saturating_add.result; arc = arc; from = c.args.node } in
-    let new : made ≡ link_of note links = link_of-read note links c.in-Some.from c.saturating_add.result arc tail.0 tail.1 tail.2 c.saturating_add.ensures refl in
-    let same : HaveOneArc (link links c.args.head) (link_of note links) = (ap (λ (l : Link). l.from) (sym old) ∙ c.if-old-node.false, ap (λ (l : Link). l.arc) (sym old)) in
-    let P : Link → Type 0 = λ l. IsReachedAgain roads c.args.head l links c.args.waiting.now.waiting c.args.ties.now.list.items c.relevel.new.links c.relevel.new.waiting.waiting c.relevel.new.ties.list.items in
-    let reached = subst P new (c.relevel.ensures.reached yes roads) in
-    AreAfter-passed roads note notes links c.relevel.new.links _ _ _ _ refl same (λ none. c.if-old-eq0.false (level ∙ none)) (omega (arith, level, c.if-old-ge-NO_LEVEL.false)) reached sources table before
+pub returns : goal.returns
+returns c = record {
+  places = c.relevel.ensures.kept.places;
+  stay = λ yes roads sources table notes before.
+      let links = c.args.links.now in
+      let tail : (0 < c.args.node) × (c.in-Some.from ≡ c.args.node - 1) × (c.in-Some.from < length links) = c.in-Some.ensures in
+      let old = read links c.args.head c.in-Some-place_of.at 0 (length links) c.in-Some-place_of.ensures refl in
+      let level = ap (λ (l : Link). l.level) old in
+      let arc = (get_or links c.in-Some-place_of.at empty).arc in
+      let note : Note = record { node = c.args.head; from = c.args.node; place = arc; again = true } in
+      let made : Link = record { level = c.saturating_add.result; arc = arc; from = c.args.node } in
+      let new : made ≡ link_of note links = link_of-read note links c.in-Some.from c.saturating_add.result arc tail.0 tail.1 tail.2 c.saturating_add.ensures refl in
+      let same : HaveOneArc (link links c.args.head) (link_of note links) = (ap (λ (l : Link). l.from) (sym old) ∙ c.if-old-node.false, ap (λ (l : Link). l.arc) (sym old)) in
+      let P : Link → Type 0 = λ l. IsReachedAgain roads c.args.head l links c.args.waiting.now.waiting c.args.ties.now.list.items c.relevel.new.links c.relevel.new.waiting.waiting c.relevel.new.ties.list.items in
+      let reached = subst P new (c.relevel.ensures.reached yes roads) in
+      AreAfter-passed roads note notes links c.relevel.new.links _ _ _ _ refl same (λ none. c.if-old-eq0.false (level ∙ none)) (omega (arith, level, c.if-old-ge-NO_LEVEL.false)) reached sources table before;
+}

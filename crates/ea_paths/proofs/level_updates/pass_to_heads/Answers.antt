@@ -2,8 +2,10 @@ use Rattle.std.proofs.Common.{◌∙◌}
 use Rattle.ea_paths.proofs.level_updates.pass_to_heads.Goals as goal
 
 pub loop-arc-preserved : goal.loop-arc-preserved
-loop-arc-preserved c = record {
-  places = c.pass_to_head.ensures.places ∙ c.loop-arc.invariant.places;
-  nodes = c.pass_to_head.ensures.nodes ∙ c.loop-arc.invariant.nodes;
-  stay = λ roads sources table notes before. c.pass_to_head.ensures.stay c.if-not-pass_to_head.false roads sources table notes (c.loop-arc.invariant.stay roads sources table notes before);
-}
+loop-arc-preserved c =
+    let before = c.loop-arc.invariant in
+    let passes = c.pass_to_head.ensures in
+    record {
+      places = record { places = passes.places.places ∙ before.places.room; room = passes.places.room ∙ before.places.room };
+      stay = λ roads sources table notes begun. passes.stay c.if-not-pass_to_head.false roads sources table notes (before.stay roads sources table notes begun);
+    }

@@ -7,14 +7,14 @@ abbrev pub invariant-loop-source : goal.invariant-loop-source
 invariant-loop-source g l = record {
   linking : Linking l.network (g.T.TravelTimes.answers l.times) l.sources l.table l.links l.waiting.waiting;
   sown : AreSown l.sources l.table l.links l.source-index;
-  nodes : l.waiting.nodes ≡ l.network.nodes;
+  room : l.waiting.nodes ≡ l.network.nodes;
 }
 
 abbrev pub invariant-loop-node : goal.invariant-loop-node
 invariant-loop-node g l = record {
   linking : Linking l.network (g.T.TravelTimes.answers l.times) l.sources l.table l.links l.waiting.waiting;
   sown : AreSown l.sources l.table l.links (length l.sources);
-  nodes : l.waiting.nodes ≡ l.network.nodes;
+  room : l.waiting.nodes ≡ l.network.nodes;
 }
 
 -- each better link takes at least one from the levels and adds at most one waiting node

@@ -1,4 +1,4 @@
-use Rattle.std.proofs.Common.{◌≡◌, ◌≢◌, ℕ, ◌+◌, ◌<◌, List, length, get_or, set, refl, sym, ◌∙◌, ap, subst, arith}
+use Rattle.std.proofs.Common.{◌≡◌, ◌≢◌, ℕ, ◌+◌, ◌<◌, ◌≤◌, List, length, get_or, set, refl, sym, ◌∙◌, ap, subst, arith}
 use Rattle.ea_road.specs.Roads.{Roads, leaving}
 use Rattle.ea_search.specs.declared.link.Link.{Link}
 use Rattle.ea_search.specs.declared.link.TheConstants.{NO_LEVEL}
@@ -54,7 +54,7 @@ loop-place-preserved c =
       settled = elim c.if-old-lt-NO_LEVEL.branch [
         | then-old-lt-NO_LEVEL+then-old-gt0+in-Some w ↦ (
             let is = w.in-Some.ensures in
-            subst P (sym w.links-is) (writes network links links' place inside to w.in-Some.number (sym is.placed.1) is.placed.0 is.lower w.if-old-gt0.true))
+            subst P (sym w.links-is) (writes network links links' place inside to w.in-Some.number (sym is.0.1) is.0.0 is.1 w.if-old-gt0.true))
         | else-old-lt-NO_LEVEL w ↦ (
             let never : (link links (place + 1)).level < NO_LEVEL → (link links (place + 1)).from ≢ 0 → ⊥ = λ there far. elim w.else-old-lt-NO_LEVEL.branch [
               | else-old-lt-NO_LEVEL-via-then-old-lt-NO_LEVEL+else-old-gt0 w' ↦ omega (arith, w'.if-old-gt0.false)
@@ -65,11 +65,13 @@ loop-place-preserved c =
     }
 
 pub returns-clause-settled : goal.returns-clause-settled
-returns-clause-settled c = λ _. SettledTo-all c.args.network.now c.args.links.now c.loop-place.links c.loop-place.place (omega (arith, c.loop-place.invariant.places, c.loop-place-test.false)) c.loop-place.invariant.settled
-
-pub returns-clause-ready : goal.returns-clause-ready
-returns-clause-ready c = λ _.
+returns-clause-settled c = λ _.
+    let network = c.args.network.now in
     let links = c.args.links.now in
+    let links' = c.loop-place.links in
     let place = c.loop-place.place in
-    let all = Ready-all links place (omega (arith, c.loop-place.invariant.places, c.loop-place-test.false)) c.loop-place.invariant.ready in
-    Ready-same links c.loop-place.links (SettledTo-level c.args.network.now links c.loop-place.links place c.loop-place.invariant.settled) all
+    let before = c.loop-place.invariant in
+    let past : length links ≤ place = omega (arith, before.places, c.loop-place-test.false) in (
+      SettledTo-all network links links' place past before.settled,
+      Ready-same links links' (SettledTo-level network links links' place before.settled) (Ready-all links place past before.ready),
+    )

@@ -1,4 +1,4 @@
-use Rattle.std.proofs.Common.{◌≡◌, ℕ, ◌+◌, List, [], ◌∷◌, ◌++◌, take, get_or, subst, refl, sym, ◌∙◌, arith}
+use Rattle.std.proofs.Common.{◌≡◌, ℕ, ◌+◌, List, [], ◌∷◌, ◌++◌, take, get_or, subst, sym, ◌∙◌, arith}
 use Rattle.std.proofs.lemmas.List.{map_more, take_all}
 use Rattle.ea_search.specs.declared.log.note.Note.{Note}
 use Rattle.ea_search.specs.Notes.{note_in, notes_in}
@@ -8,16 +8,9 @@ use Rattle.ea_paths.proofs.log_replay.replay.Goals as goal
 
 pub loop-word-init : goal.loop-word-init
 loop-word-init c = record {
-  places = refl;
-  nodes = refl;
+  places = c.requires;
   after = λ sources table begun. (begun, AreTied-none c.args.links.now c.clear.new.self.list.items);
 }
-
-pub follow_note-requires-clause-places : goal.follow_note-requires-clause-places
-follow_note-requires-clause-places c = c.loop-word.invariant.places ∙ c.requires.places
-
-pub follow_note-requires-clause-nodes : goal.follow_note-requires-clause-nodes
-follow_note-requires-clause-nodes c = c.loop-word.invariant.nodes ∙ c.requires.nodes
 
 pub loop-word-preserved : goal.loop-word-preserved
 loop-word-preserved c =
@@ -26,15 +19,15 @@ loop-word-preserved c =
     let note = note_in (get_or words place 0) in
     let notes = notes_in (take place words) in
     let before = c.loop-word.invariant in
+    let passes = c.pass_on.ensures in
     let followed = rw c.note_in-note.ensures at (c.follow_note.ensures.followed c.if-not-follow_note.false) in
     let more : notes_in (take (place + 1) words) ≡ notes ++ note ∷ [] = map_more note_in words place 0 c.loop-word-test.true in
     let more_after = AreAfter-more c.args.network.now notes note _ _ _ _ _ _ followed in
     record {
-      places = c.pass_on.ensures.places ∙ c.follow_note.ensures.places ∙ before.places;
-      nodes = c.pass_on.ensures.nodes ∙ c.follow_note.ensures.nodes ∙ before.nodes;
+      places = record { places = passes.places.places ∙ c.follow_note.ensures.places.room; room = passes.places.room ∙ c.follow_note.ensures.places.room };
       after = λ sources table begun. (
           let P : List Note → Type 0 = λ xs. AreAfter c.args.network.now sources table xs c.pass_on.new.links c.pass_on.new.waiting.waiting c.pass_on.new.ties.list.items in
-          subst P (sym more) (c.pass_on.ensures.stay c.if-not-pass_on.false c.args.network.now sources table (notes ++ note ∷ []) (more_after sources table (before.after sources table begun))));
+          subst P (sym more) (passes.stay c.if-not-pass_on.false c.args.network.now sources table (notes ++ note ∷ []) (more_after sources table (before.after sources table begun))));
     }
 
 pub returns-clause-replayed : goal.returns-clause-replayed

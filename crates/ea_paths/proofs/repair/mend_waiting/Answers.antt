@@ -1,29 +1,49 @@
-use Rattle.std.proofs.Common.{[], inl, inr, refl, ◌∙◌, arith}
-use Rattle.ea_paths.proofs.Linkings.{Offers-lower}
-use Rattle.ea_paths.proofs.Mendings.{AreMended-more, Ready-mended, nobody_in}
+use Rattle.std.proofs.Common.{[], inl, inr, refl, ◌∙◌, ap, arith}
+use Rattle.ea_search.specs.Worklist.{Ring}
+use Rattle.ea_paths.proofs.Mendings.{KeepsMended-more, Ready-mended, nobody_in}
 use Rattle.ea_paths.proofs.repair.mend_waiting.Goals as goal
+
+pub mending-init : goal.mending-init
+mending-init g c = record {
+  kept = record {
+    places = record { places = c.requires.places; room = c.requires.room };
+    mended = λ sources first. first;
+    lower = λ v. omega arith;
+  };
+  ready = λ first v. inl (first v);
+}
+
+pub mend-requires-clause-can : goal.mend-requires-clause-can
+mend-requires-clause-can g c =
+    let kept = c.mending.invariant.kept.places in
+    record {
+      classed = c.requires.classed;
+      labels = c.requires.labels;
+      places = kept.places;
+      room = c.in-Some.ensures.nodes ∙ kept.room;
+    }
 
 pub mending-preserved : goal.mending-preserved
 mending-preserved g c =
     let before = c.mending.invariant in
-    let offers = c.mend.ensures.offers in
+    let mends = c.mend.ensures in
     record {
-      places = offers.places ∙ before.places;
-      nodes = c.mend.ensures.nodes ∙ c.in-Some.ensures.nodes ∙ before.nodes;
-      mended = λ sources first. AreMended-more _ _ sources _ c.in-Some.node _ _ _ _ (rw c.in-Some.ensures.taken at before.mended sources first) offers c.mend.ensures.spent;
-      ready = λ first. Ready-mended _ _ c.in-Some.node _ _ _ _ (rw c.in-Some.ensures.taken at before.ready first) offers (c.mend.ensures.ready c.if-not-mend.false);
-      lower = λ v. (let falls = Offers-lower _ _ _ _ _ _ offers v in let low = before.lower v in omega arith);
+      kept = KeepsMended-more _ _ _ c.in-Some.node _ _ _ _ _ _ _ _ c.in-Some.ensures.taken c.in-Some.ensures.nodes before.kept mends;
+      ready = λ first. Ready-mended _ _ c.in-Some.node _ _ _ _ (rw c.in-Some.ensures.taken at before.ready first) mends.offers (mends.ready c.if-not-mend.false);
     }
 
-pub returns-then-not-mend-clause-mended : goal.returns-then-not-mend-clause-mended
-returns-then-not-mend-clause-mended g c = λ sources first.
-    AreMended-more _ _ sources _ c.in-Some.node _ _ _ _ (rw c.in-Some.ensures.taken at c.mending.invariant.mended sources first) c.mend.ensures.offers c.mend.ensures.spent
+pub returns-then-not-mend-clause-kept : goal.returns-then-not-mend-clause-kept
+returns-then-not-mend-clause-kept g c = KeepsMended-more _ _ _ c.in-Some.node _ _ _ _ _ _ _ _ c.in-Some.ensures.taken c.in-Some.ensures.nodes c.mending.invariant.kept c.mend.ensures
 
-pub returns-in_default-clause-mended : goal.returns-in_default-clause-mended
-returns-in_default-clause-mended g c = rw c.in_default.ensures.taken.1 c.mending.invariant.mended
+pub returns-in_default-clause-kept : goal.returns-in_default-clause-kept
+returns-in_default-clause-kept g c = rw c.in_default.ensures.taken.1 c.mending.invariant.kept
 
-pub returns-in_default-clause-ready : goal.returns-in_default-clause-ready
-returns-in_default-clause-ready g c = λ first _ v. elim (c.mending.invariant.ready first v) [
-  | inl ready ↦ ready
-  | inr waits ↦ absurd (nobody_in [] refl v (rw c.in_default.ensures.taken.0 at waits))
-]
+pub returns-in_default-clause-done : goal.returns-in_default-clause-done
+returns-in_default-clause-done g c = λ _.
+    let taken = c.in_default.ensures.taken in (
+      ap (λ (w : Ring). w.waiting) taken.1 ∙ taken.0,
+      λ first v. elim (c.mending.invariant.ready first v) [
+        | inl ready ↦ ready
+        | inr waits ↦ absurd (nobody_in [] refl v (rw taken.0 at waits))
+      ],
+    )

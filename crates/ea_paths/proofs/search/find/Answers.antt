@@ -6,11 +6,15 @@ over-frontier-requires-clause-entries g c = λ entry is. absurd (c.requires.list
 pub finish_noted-todo-requires-clause-underway : goal.finish_noted-todo-requires-clause-underway
 finish_noted-todo-requires-clause-underway g c = rw c.into_parts-lists.ensures.todo c.search.ensures.underway
 
+pub returns-clause-ended : goal.returns-clause-ended
+returns-clause-ended g c =
+    let finish = c.finish_noted-todo.ensures in
+    record {
+      finished = finish.finished;
+      met = finish.met;
+      had = finish.had c.search.ensures.had;
+      listed = finish.listed c.search.ensures.listed;
+    }
+
 pub returns-clause-lists : goal.returns-clause-lists
 returns-clause-lists g c = (c.into_parts-lists.ensures.length, rw c.into_parts-lists.ensures.lists c.search.ensures.none)
-
-pub returns-clause-listed : goal.returns-clause-listed
-returns-clause-listed g c = c.finish_noted-todo.ensures.listed c.search.ensures.listed
-
-pub returns-clause-had : goal.returns-clause-had
-returns-clause-had g c = c.finish_noted-todo.ensures.had c.search.ensures.had

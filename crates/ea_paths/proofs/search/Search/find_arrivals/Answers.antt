@@ -1,4 +1,4 @@
-use Rattle.std.proofs.Common.{false, sym, ap, ◌∙◌, inl}
+use Rattle.std.proofs.Common.{false, refl, sym, ap, ◌∙◌, inl}
 use Rattle.std.proofs.lemmas.List.{length-map}
 use Rattle.ea_paths.proofs.Answered.{has_arrivals}
 use Rattle.ea_search.specs.Listings.{Searched}
@@ -10,7 +10,7 @@ use Rattle.ea_paths.proofs.search.Search.find_arrivals.Goals as goal
 
 pub invariant_of-result : goal.invariant_of-result
 invariant_of-result g c =
-    let finished = c.find-lists.ensures.finished in
+    let finished = c.find-lists.ensures.ended.finished in
     rw c.new.ensures (record {
       can = record {
         nobody = c.into_parts-waiting.ensures.waiting ∙ finished.nobody;
@@ -18,7 +18,7 @@ invariant_of-result g c =
         links = room_again _ _ _ _ _ c.into_parts-waiting.ensures.links c.into_parts-waiting.ensures.nodes (c.find-lists.ensures.walks ∙ ap (λ (w : Worklist). w.walks) c.into_arrays-table.ensures.todo ∙ sym (ap (λ (s : Searched). s.walks) c.self.view_is));
         many = rw length-map c.find-lists.ensures.lists.0;
         none = c.find-lists.ensures.lists.1;
-        reached = c.find-lists.ensures.listed;
+        reached = c.find-lists.ensures.ended.listed;
         linked = rw c.into_parts-waiting.ensures.links (λ v. inl (link-none _ v));
       };
       guide_fits = fits_too _ _ _ (c.requires.nodes ∙ sym (c.into_parts-waiting.ensures.nodes ∙ finished.room)) c.into_arrays-table.ensures.guide;
@@ -26,8 +26,14 @@ invariant_of-result g c =
 
 pub returns-clause-arrivals : goal.returns-clause-arrivals
 returns-clause-arrivals g c =
-    let finished = c.find-lists.ensures.finished in
+    let finished = c.find-lists.ensures.ended.finished in
     rw (c.new.ensures, c.nodes.ensures.nodes, c.target.ensures.target) (has_arrivals c.args.network.now _ _ c.args.query.now c.nodes.ensures.network c.requires.problem (g.met.T.TravelTimes.fifo c.args.times.now) c.find-lists.new.table.labels.items finished.places finished.fixed _ false)
 
-pub find-lists-requires-clause-had : goal.find-lists-requires-clause-had
-find-lists-requires-clause-had g c v u k had = had
+pub find-lists-requires-clause-begins : goal.find-lists-requires-clause-begins
+find-lists-requires-clause-begins g c =
+    let arrays = c.into_arrays-table.ensures in
+    record {
+      none = rw (arrays.labels, c.requires.nodes) refl;
+      unmet = λ v u k had. had;
+      room = ap (λ (w : Worklist). w.nodes) arrays.todo ∙ c.requires.nodes;
+    }

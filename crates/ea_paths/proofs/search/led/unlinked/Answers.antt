@@ -1,4 +1,4 @@
-use Rattle.std.proofs.Common.{sym, ap, refl, ◌∙◌, inl}
+use Rattle.std.proofs.Common.{sym, ap, ◌∙◌, inl}
 use Rattle.std.proofs.lemmas.List.{length-map}
 use Rattle.ea_paths.proofs.Linkings.{link-none}
 use Rattle.ea_search.specs.Worklist.{Worklist}

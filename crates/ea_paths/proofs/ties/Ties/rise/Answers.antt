@@ -15,7 +15,7 @@ loop-tie-preserved c =
     let before = c.loop-tie.invariant in
     elim c.if-tie-node.branch [
       | then-tie-node+else-not-wake w ↦ record {
-        nodes = ap (λ (r : Ring). r.nodes) w.waiting-is ∙ w.wake.ensures.nodes ∙ before.nodes;
+        room = ap (λ (r : Ring). r.nodes) w.waiting-is ∙ w.wake.ensures.nodes ∙ before.room;
         kept = λ v there. subst (λ (r : Ring). Contains r.waiting v) (sym w.waiting-is) (w.wake.ensures.kept v (before.kept v there));
         woken = λ u there. elim (Contains-push_cases (take place ties) tie (c.args.node, u) (subst (λ (xs : List (ℕ × ℕ)). Contains xs (c.args.node, u)) more there)) [
           | inl old ↦ subst (λ (r : Ring). Contains r.waiting u) (sym w.waiting-is) (w.wake.ensures.kept u (before.woken u old))
@@ -23,7 +23,7 @@ loop-tie-preserved c =
         ];
       }
       | else-tie-node w ↦ record {
-        nodes = ap (λ (r : Ring). r.nodes) w.waiting-is ∙ before.nodes;
+        room = ap (λ (r : Ring). r.nodes) w.waiting-is ∙ before.room;
         kept = λ v there. subst (λ (r : Ring). Contains r.waiting v) (sym w.waiting-is) (before.kept v there);
         woken = λ u there. elim (Contains-push_cases (take place ties) tie (c.args.node, u) (subst (λ (xs : List (ℕ × ℕ)). Contains xs (c.args.node, u)) more there)) [
           | inl old ↦ subst (λ (r : Ring). Contains r.waiting u) (sym w.waiting-is) (before.woken u old)
@@ -33,8 +33,13 @@ loop-tie-preserved c =
     ]
 
 pub returns-clause-woken : goal.returns-clause-woken
-returns-clause-woken c = λ yes.
+returns-clause-woken c =
     let ties = c.args.self.now.list.items in
+    let before = c.loop-tie.invariant in
     let all : take c.loop-tie.tie-index ties ≡ ties = take_all c.loop-tie.tie-index ties (omega arith) in
     let P : List (ℕ × ℕ) → Type 0 = λ xs. AreWoken xs c.args.node c.loop-tie.waiting.waiting in
-    subst P all (rw c.deref-tie-items.ensures.value at c.loop-tie.invariant.woken)
+    record {
+      room = before.room;
+      kept = before.kept;
+      woken = λ yes. subst P all (rw c.deref-tie-items.ensures.value at before.woken);
+    }

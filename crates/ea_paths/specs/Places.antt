@@ -1,0 +1,27 @@
+-- Links and a waiting list with a place for each node.
+use Rattle.std.specs.Prelude.{◌≡◌, ◌≢◌, ℕ, List, [], length, replicate}
+use Rattle.ea_road.specs.Roads.{IsNode}
+use Rattle.ea_search.specs.declared.link.Link.{Link}
+use Rattle.ea_search.specs.Links.{link, no_link}
+use Rattle.ea_search.specs.Worklist.{Ring}
+
+-- Each node has a link, and room to wait.
+pub record HavePlaces (nodes : ℕ) (links : List Link) (waiting : Ring) : Type 0 where
+  pub places : length links ≡ nodes
+  pub room : waiting.nodes ≡ nodes
+
+-- This node has a link, and room to wait.
+pub record HasPlace (node : ℕ) (links : List Link) (waiting : Ring) : Type 0 where
+  pub is_node : IsNode waiting.nodes node
+  pub places : length links ≡ waiting.nodes
+
+-- This node has a link that doesn't begin a walk, and room to wait.
+pub record IsLaterNode (node : ℕ) (links : List Link) (waiting : Ring) : Type 0 where
+  pub place : HasPlace node links waiting
+  pub level : (link links node).level ≢ 0
+
+-- No node has a link, and none waits.
+pub record HaveNoLinks (nodes : ℕ) (links : List Link) (waiting : Ring) : Type 0 where
+  pub none : links ≡ replicate nodes no_link
+  pub nobody : waiting.waiting ≡ []
+  pub room : waiting.nodes ≡ nodes
