@@ -9,6 +9,10 @@ use Rattle.ea_road.specs.Queries.{Asking}
 abbrev pub number_of : List ℕ → ℕ → ℕ
 number_of numbers node = slice_index numbers (node - 1)
 
+-- Each node's number is that of a node.
+abbrev pub StayNodes : List ℕ → Type 0
+StayNodes numbers = (node : ℕ) → IsNode (length numbers) node → IsNode (length numbers) (number_of numbers node)
+
 -- Two lists of numbers of nodes, each the reverse of the other.
 pub record AreReverse (nodes : ℕ) (there back : List ℕ) : Type 0 where
   pub there_length : length there ≡ nodes

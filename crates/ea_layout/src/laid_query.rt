@@ -2,8 +2,9 @@
 ghost use Rattle.std.specs.List.{IsAmong};
 ghost use Rattle.std.specs.Prelude.{◌≡◌, ℕ, IfOk, None, Some, length};
 ghost use Rattle.ea_layout.specs.Copied.{AsksFor};
-ghost use Rattle.ea_layout.specs.Renamed.{number_of, renamed_source, renamed_sources};
-ghost use Rattle.ea_road.specs.Queries.{AreSources, IsSource};
+ghost use Rattle.ea_layout.specs.Laid.{CanRename};
+ghost use Rattle.ea_layout.specs.Renamed.{renamed_source, renamed_sources};
+ghost use Rattle.ea_road.specs.Queries.{AreSources};
 ghost use Rattle.ea_road.specs.Roads.{IsNode};
 ghost use Rattle.ea_road.specs.declared.source.Source.{Source as SourceType};
 
@@ -41,10 +42,7 @@ fn laid_sources(
 /// A query for all nodes from sources, under new numbers of the nodes.
 fn laid_query_of_all(alloc: Global, places: &[u32], sources: &[Source]) -> Result<Query, AllocError>
     requires sources { AreSources sources.now }
-    requires nodes { (source : SourceType) → IsAmong sources.now source
-        → IsNode (length places.now) source.node }
-    requires inside { (node : ℕ) → IsNode (length places.now) node
-        → IsNode (length places.now) (number_of places.now node) }
+    requires can { CanRename places.now sources.now }
     ensures { IfOk result (λ laid. laid
         ≡ record { sources = renamed_sources places.now sources.now; target = None }) }
 {
@@ -56,12 +54,9 @@ fn laid_query_of_all(alloc: Global, places: &[u32], sources: &[Source]) -> Resul
 
 /// A query that asks under new numbers of the nodes for what a query asks. Takes no memory for one source.
 pub(crate) fn laid_query(alloc: Global, places: &[u32], query: &Query) -> Result<Query, AllocError>
-    requires sources { (source : SourceType) → IsAmong query.now.sources source
-        → IsNode (length places.now) source.node }
+    requires can { CanRename places.now query.now.sources }
     requires target { (node : ℕ) → query.now.target ≡ Some node
         → IsNode (length places.now) node }
-    requires inside { (node : ℕ) → IsNode (length places.now) node
-        → IsNode (length places.now) (number_of places.now node) }
     ensures { IfOk result (λ laid. AsksFor places.now query.now laid) }
 {
     let sources = query.sources();
@@ -79,11 +74,8 @@ fn laid_pair(
     target: u32,
 ) -> Result<Query, AllocError>
     requires sources { AreSources sources.now }
-    requires nodes { (source : SourceType) → IsAmong sources.now source
-        → IsNode (length places.now) source.node }
+    requires can { CanRename places.now sources.now }
     requires target { IsNode (length places.now) target }
-    requires inside { (node : ℕ) → IsNode (length places.now) node
-        → IsNode (length places.now) (number_of places.now node) }
     ensures { IfOk result (λ laid. AsksFor places.now
         (record { sources = sources.now; target = Some target }) laid) }
 {

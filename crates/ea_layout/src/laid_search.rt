@@ -1,7 +1,9 @@
 //! Searches on a layout, whose answers have the numbers of the network.
 ghost use Rattle.std.specs.Prelude.{◌≡◌, IfOk, length, true, false, if◌then◌else◌};
 ghost use Rattle.ea_layout.specs.Copied.{AsksFor};
+ghost use Rattle.ea_layout.specs.Laid.{CanFindLaid};
 ghost use Rattle.ea_layout.specs.Orders.{LaysOut};
+ghost use Rattle.ea_paths.specs.Searches.{HasFound};
 ghost use Rattle.ea_road.specs.Queries.{IsProblem};
 ghost use Rattle.ea_search.specs.Answers.{HasArrivals, IsAnswer};
 
@@ -53,10 +55,8 @@ impl LaidSearch {
         walks: bool,
         search: Search,
     ) -> Result<LaidSearch, AllocError>
-        requires nodes { search.nodes ≡ nodes }
-        requires walks { search.walks ≡ walks }
-        ensures nodes { IfOk result (λ laid. laid.nodes ≡ nodes) }
-        ensures walks { IfOk result (λ laid. laid.walks ≡ walks) }
+        requires { (search.nodes ≡ nodes) × (search.walks ≡ walks) }
+        ensures { IfOk result (λ laid. (laid.nodes ≡ nodes) × (laid.walks ≡ walks)) }
     {
         let labels = vec![in alloc; NONE; nodes as usize]?;
         let room = room_of(nodes, walks);
@@ -104,10 +104,8 @@ impl LaidSearch {
         query: &Query,
         laid: &Query,
     ) -> LaidSearch
-        requires laid_out { LaysOut network.now layout.now }
-        requires problem { IsProblem network.now (T.classes times.now) query.now }
+        requires can { CanFindLaid network.now layout.now (T.classes times.now) query.now self }
         requires asks { AsksFor layout.now.places.items query.now laid.now }
-        requires nodes { self.nodes ≡ network.now.nodes }
         ensures arrivals { HasArrivals network.now (T.answers times.now) query.now result.answer }
         ensures none { result.answer.walks ≡ false }
         ensures room { (result.nodes ≡ self.nodes) × (result.walks ≡ self.walks) }
@@ -147,13 +145,10 @@ impl LaidSearch {
         query: &Query,
         laid: &Query,
     ) -> LaidSearch
-        requires laid_out { LaysOut network.now layout.now }
-        requires problem { IsProblem network.now (T.classes times.now) query.now }
+        requires can { CanFindLaid network.now layout.now (T.classes times.now) query.now self }
         requires asks { AsksFor layout.now.places.items query.now laid.now }
-        requires nodes { self.nodes ≡ network.now.nodes }
         requires walks { self.walks ≡ true }
-        ensures answer { IsAnswer network.now (T.answers times.now) query.now result.answer }
-        ensures room { (result.nodes ≡ self.nodes) × (result.walks ≡ true) }
+        ensures { HasFound network.now (T.answers times.now) query.now true result }
     {
         network.keeps_limits();
         let LaidSearch {

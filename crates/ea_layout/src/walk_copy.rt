@@ -1,11 +1,10 @@
 //! The walk to a target, written link by link under the numbers of the network.
-ghost use Rattle.std.specs.Prelude.{◌≡◌, ◌≢◌, ℕ, length};
-ghost use Rattle.ea_layout.specs.Copied.{AreLinksCopied, HasLevel, IsLinkCopied};
+ghost use Rattle.std.specs.Prelude.{◌≡◌, ℕ, length};
+ghost use Rattle.ea_layout.specs.Copied.{HasLevel};
 ghost use Rattle.ea_layout.specs.Renamed.{AreReverse, number_of};
-ghost use Rattle.ea_paths.specs.Stored.{AreFollowable};
+ghost use Rattle.ea_layout.specs.Writing.{CanCopyLinks, CopiesLink, CopiesWalk};
 ghost use Rattle.ea_road.specs.Roads.{IsNode};
 ghost use Rattle.ea_search.specs.Links.{link, no_link};
-ghost use Rattle.ea_search.specs.Listings.{AreLinksListed, IsListed, KeepsListed};
 
 use crate::layout::Layout;
 use crate::link_copy::copy_of;
@@ -16,13 +15,7 @@ fn copy_link(layout: &Layout, laid: &[Link], at: u32, links: &mut [Link], listed
     requires length { length links.old ≡ length laid.now }
     requires reverse { AreReverse (length laid.now) layout.now.places.items layout.now.nodes.items }
     requires at { IsNode (length laid.now) at }
-    ensures length { length links.new ≡ length links.old }
-    ensures copied { IsLinkCopied layout.now.places.items layout.now.nodes.items laid.now links.new
-        (number_of layout.now.nodes.items at) }
-    ensures others { (node : ℕ) → node ≢ number_of layout.now.nodes.items at
-        → link links.new node ≡ link links.old node }
-    ensures there { IsListed listed.new (number_of layout.now.nodes.items at) }
-    ensures kept { KeepsListed (IsListed listed.old) (IsListed listed.new) }
+    ensures { CopiesLink layout.now laid.now at links.old links.new listed.old listed.new }
 {
     let slot = at as usize - 1;
     let node = layout.nodes[slot];
@@ -38,18 +31,11 @@ pub(crate) fn copy_walk(
     links: &mut [Link],
     listed: &mut Listed,
 )
-    requires length { length links.old ≡ length laid.now }
-    requires reverse { AreReverse (length laid.now) layout.now.places.items layout.now.nodes.items }
-    requires followable { AreFollowable laid.now }
+    requires can { CanCopyLinks layout.now laid.now links.old }
     requires target { IsNode (length laid.now) target }
     requires level { HasLevel laid.now (number_of layout.now.places.items target) }
     requires none { (node : ℕ) → link links.old node ≡ no_link }
-    ensures copied { AreLinksCopied (length laid.now) layout.now.places.items
-        layout.now.nodes.items laid.now links.new }
-    ensures target { IsLinkCopied layout.now.places.items layout.now.nodes.items laid.now links.new
-        target }
-    ensures listed { AreLinksListed links.new (IsListed listed.new) }
-    ensures kept { KeepsListed (IsListed listed.old) (IsListed listed.new) }
+    ensures { CopiesWalk layout.now laid.now target links.new listed.old listed.new }
 {
     let mut at = layout.places[target as usize - 1];
     while laid[at as usize - 1].level > 0 {

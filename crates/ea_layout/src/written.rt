@@ -1,14 +1,9 @@
 //! Arrays of labels and links under the numbers of the network, copied from those of a layout.
 ghost use Rattle.std.specs.Prelude.{◌≡◌, ◌≢◌, ℕ, None, Some, length};
-ghost use Rattle.ea_layout.specs.Copied.{AreAskedCopied, AreCleared, AreLabelsCopied, AreLinksCopied, CanRewrite};
-ghost use Rattle.ea_layout.specs.Copied.{HasLevel, IsCopyOf, IsLinkCopied};
-ghost use Rattle.ea_layout.specs.Renamed.{AreReverse, number_of};
-ghost use Rattle.ea_paths.specs.Stored.{AreFollowable};
+ghost use Rattle.ea_layout.specs.Copied.{AreLabelsCopied, AreLinksCopied, IsLinkCopied};
+ghost use Rattle.ea_layout.specs.Writing.{CanCopyLabels, CanCopyLinks, CanWriteLabels, CanWriteLinks, IsReset, WritesLabels, WritesLinks};
 ghost use Rattle.ea_road.specs.Roads.{IsNode};
-ghost use Rattle.ea_search.specs.Links.{link, no_link};
 ghost use Rattle.ea_search.specs.Listings.{AreLabelsListed, AreLinksListed, IsListed};
-ghost use Rattle.ea_road.specs.Labels.{label_of};
-ghost use Rattle.ea_road.specs.declared.TheConstants.{NONE};
 ghost use Rattle.ea_search.specs.Underway.{bound_of};
 
 use crate::layout::Layout;
@@ -28,10 +23,7 @@ pub(crate) struct Written {
 
 /// Copies the label of each node.
 fn copy_labels(places: &[u32], laid: &[u64], labels: &mut [u64])
-    requires lengths { (length laid.now ≡ length places.now)
-        × (length labels.old ≡ length places.now) }
-    requires inside { (node : ℕ) → IsNode (length places.now) node
-        → IsNode (length places.now) (number_of places.now node) }
+    requires { CanCopyLabels places.now laid.now labels.old }
     ensures { AreLabelsCopied (length places.now) None places.now laid.now labels.new }
 {
     for slot in 0..labels.len() {
@@ -41,10 +33,7 @@ fn copy_labels(places: &[u32], laid: &[u64], labels: &mut [u64])
 
 /// Copies the label of a target.
 fn copy_label(places: &[u32], laid: &[u64], target: u32, labels: &mut [u64])
-    requires lengths { (length laid.now ≡ length places.now)
-        × (length labels.old ≡ length places.now) }
-    requires inside { (node : ℕ) → IsNode (length places.now) node
-        → IsNode (length places.now) (number_of places.now node) }
+    requires can { CanCopyLabels places.now laid.now labels.old }
     requires target { IsNode (length places.now) target }
     ensures copied { AreLabelsCopied (length places.now) (Some target) places.now laid.now labels.new }
     ensures others { (node : ℕ) → node ≢ target
@@ -56,9 +45,7 @@ fn copy_label(places: &[u32], laid: &[u64], target: u32, labels: &mut [u64])
 
 /// Copies the link of each node.
 fn copy_links(layout: &Layout, laid: &[Link], links: &mut [Link])
-    requires length { length links.old ≡ length laid.now }
-    requires reverse { AreReverse (length laid.now) layout.now.places.items layout.now.nodes.items }
-    requires followable { AreFollowable laid.now }
+    requires { CanCopyLinks layout.now laid.now links.old }
     ensures copied { AreLinksCopied (length laid.now) layout.now.places.items
         layout.now.nodes.items laid.now links.new }
     ensures all { (node : ℕ) → IsNode (length laid.now) node
@@ -72,16 +59,8 @@ fn copy_links(layout: &Layout, laid: &[Link], links: &mut [Link])
 impl Written {
     /// Writes the label of each node.
     fn write_all_labels(&mut self, places: &[u32], laid: &[u64])
-        requires can { CanRewrite (length places.now) self.old.labels.items self.old.links.items
-            self.old.listed }
-        requires length { length laid.now ≡ length places.now }
-        requires inside { (node : ℕ) → IsNode (length places.now) node
-            → IsNode (length places.now) (number_of places.now node) }
-        ensures can { CanRewrite (length places.now) self.new.labels.items self.new.links.items
-            self.new.listed }
-        ensures copied { AreLabelsCopied (length places.now) None places.now laid.now
-            self.new.labels.items }
-        ensures links { length self.new.links.items ≡ length self.old.links.items }
+        requires { CanWriteLabels places.now None laid.now self.old }
+        ensures { WritesLabels places.now None laid.now self.old self.new }
     {
         copy_labels(places, laid, &mut self.labels);
         self.listed.add_all();
@@ -91,28 +70,15 @@ impl Written {
     fn reset(&mut self)
         requires labels { AreLabelsListed self.old.labels.items (IsListed self.old.listed) }
         requires links { AreLinksListed self.old.links.items (IsListed self.old.listed) }
-        ensures places { length self.new.labels.items ≡ length self.old.labels.items }
-        ensures labels { (node : ℕ) → bound_of self.new.labels.items node ≡ NONE }
-        ensures length { length self.new.links.items ≡ length self.old.links.items }
-        ensures links { (node : ℕ) → link self.new.links.items node ≡ no_link }
+        ensures { IsReset self.old self.new }
     {
         self.listed.put_back(&mut self.labels, &mut self.links);
     }
 
     /// Resets what was written, and writes the label of a target.
     fn write_label(&mut self, places: &[u32], laid: &[u64], target: u32)
-        requires can { CanRewrite (length places.now) self.old.labels.items self.old.links.items
-            self.old.listed }
-        requires length { length laid.now ≡ length places.now }
-        requires inside { (node : ℕ) → IsNode (length places.now) node
-            → IsNode (length places.now) (number_of places.now node) }
-        requires target { IsNode (length places.now) target }
-        ensures can { CanRewrite (length places.now) self.new.labels.items self.new.links.items
-            self.new.listed }
-        ensures copied { AreLabelsCopied (length places.now) (Some target) places.now laid.now
-            self.new.labels.items }
-        ensures links { length self.new.links.items ≡ length self.old.links.items }
-        ensures cleared { (node : ℕ) → link self.new.links.items node ≡ no_link }
+        requires { CanWriteLabels places.now (Some target) laid.now self.old }
+        ensures { WritesLabels places.now (Some target) laid.now self.old self.new }
     {
         self.reset();
         copy_label(places, laid, target, &mut self.labels);
@@ -122,18 +88,8 @@ impl Written {
     /// Writes the labels of the asked nodes. For a target this takes time in proportion to what was written
     /// before.
     pub(crate) fn write_labels(&mut self, places: &[u32], target: Option<u32>, laid: &[u64])
-        requires can { CanRewrite (length places.now) self.old.labels.items self.old.links.items
-            self.old.listed }
-        requires length { length laid.now ≡ length places.now }
-        requires inside { (node : ℕ) → IsNode (length places.now) node
-            → IsNode (length places.now) (number_of places.now node) }
-        requires target { (node : ℕ) → target ≡ Some node → IsNode (length places.now) node }
-        ensures can { CanRewrite (length places.now) self.new.labels.items self.new.links.items
-            self.new.listed }
-        ensures copied { AreLabelsCopied (length places.now) target places.now laid.now
-            self.new.labels.items }
-        ensures links { length self.new.links.items ≡ length self.old.links.items }
-        ensures cleared { AreCleared target self.new.links.items }
+        requires { CanWriteLabels places.now target laid.now self.old }
+        ensures { WritesLabels places.now target laid.now self.old self.new }
     {
         match target {
             None => self.write_all_labels(places, laid),
@@ -143,24 +99,8 @@ impl Written {
 
     /// Writes the links of the walk to a target, if it is reached.
     fn write_walk(&mut self, layout: &Layout, laid: &[Link], target: u32)
-        requires can { CanRewrite (length laid.now) self.old.labels.items self.old.links.items
-            self.old.listed }
-        requires links { length self.old.links.items ≡ length laid.now }
-        requires reverse { AreReverse (length laid.now) layout.now.places.items
-            layout.now.nodes.items }
-        requires followable { AreFollowable laid.now }
-        requires target { IsNode (length laid.now) target }
-        requires level { label_of self.old.labels.items target ≢ NONE
-            → HasLevel laid.now (number_of layout.now.places.items target) }
-        requires cleared { (node : ℕ) → link self.old.links.items node ≡ no_link }
-        ensures can { CanRewrite (length laid.now) self.new.labels.items self.new.links.items
-            self.new.listed }
-        ensures labels { self.new.labels.items ≡ self.old.labels.items }
-        ensures copied { AreLinksCopied (length laid.now) layout.now.places.items
-            layout.now.nodes.items laid.now self.new.links.items }
-        ensures asked { label_of self.new.labels.items target ≢ NONE
-            → IsLinkCopied layout.now.places.items layout.now.nodes.items laid.now
-            self.new.links.items target }
+        requires { CanWriteLinks layout.now (Some target) laid.now self.old }
+        ensures { WritesLinks layout.now (Some target) laid.now self.old self.new }
     {
         if self.labels[target as usize - 1] != NONE {
             copy_walk(layout, laid, target, &mut self.links, &mut self.listed);
@@ -169,24 +109,8 @@ impl Written {
 
     /// Writes the links of all nodes, or of those on the walk to the target.
     pub(crate) fn write_links(&mut self, layout: &Layout, target: Option<u32>, laid: &[Link])
-        requires can { CanRewrite (length laid.now) self.old.labels.items self.old.links.items
-            self.old.listed }
-        requires links { length self.old.links.items ≡ length laid.now }
-        requires reverse { AreReverse (length laid.now) layout.now.places.items
-            layout.now.nodes.items }
-        requires followable { AreFollowable laid.now }
-        requires target { (node : ℕ) → target ≡ Some node → IsNode (length laid.now) node }
-        requires level { (node : ℕ) → target ≡ Some node
-            → label_of self.old.labels.items node ≢ NONE
-            → HasLevel laid.now (number_of layout.now.places.items node) }
-        requires cleared { AreCleared target self.old.links.items }
-        ensures can { CanRewrite (length laid.now) self.new.labels.items self.new.links.items
-            self.new.listed }
-        ensures labels { self.new.labels.items ≡ self.old.labels.items }
-        ensures copied { AreLinksCopied (length laid.now) layout.now.places.items
-            layout.now.nodes.items laid.now self.new.links.items }
-        ensures asked { AreAskedCopied (length laid.now) target layout.now.places.items
-            layout.now.nodes.items self.new.labels.items laid.now self.new.links.items }
+        requires { CanWriteLinks layout.now target laid.now self.old }
+        ensures { WritesLinks layout.now target laid.now self.old self.new }
     {
         match target {
             None => {

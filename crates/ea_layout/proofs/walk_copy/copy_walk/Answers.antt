@@ -10,12 +10,13 @@ use Rattle.ea_layout.proofs.walk_copy.copy_walk.Goals as goal
 
 pub loop-at-init : goal.loop-at-init
 loop-at-init c =
-    let reverse = c.requires.reverse in
+    let can = c.requires.can in
+    let reverse = can.reverse in
     let places = c.args.layout.now.places.items in
     let is = subst (λ n. IsNode n c.args.target) (sym reverse.there_length) c.requires.target in
     let read : c.index-at.result.now ≡ number_of places c.args.target = read_number places c.args.target c.index-at.result.now is c.index-at.ensures in
     record {
-      copied = rw read (nothing_copied (length c.args.laid.now) places c.args.layout.now.nodes.items reverse c.args.laid.now refl c.requires.followable c.args.target c.requires.target c.args.links.now c.requires.length c.requires.none c.requires.level);
+      copied = rw read (nothing_copied (length c.args.laid.now) places c.args.layout.now.nodes.items reverse c.args.laid.now refl can.followable c.args.target c.requires.target c.args.links.now can.places c.requires.none c.requires.level);
       listed = λ node. inl (c.requires.none node);
       kept = λ node there. there;
     }
@@ -26,7 +27,7 @@ loop-at-smaller c =
     let inv = c.loop-at.invariant.copied in
     let read = read_link c.args.laid.now c.loop-at.at none inv.at_node in
     let some : 0 < (link c.args.laid.now c.loop-at.at).level = subst (λ (l : Link). 0 < l.level) read c.loop-at-test.true in
-    let below = c.requires.followable c.loop-at.at some inv.level in
+    let below = c.requires.can.followable c.loop-at.at some inv.level in
     rw read (omega (arith, below.1))
 
 pub loop-at-preserved : goal.loop-at-preserved
@@ -39,7 +40,7 @@ loop-at-preserved c =
     let nodes = c.args.layout.now.nodes.items in
     let step = c.copy_link.ensures in
     record {
-      copied = rw read (one_further (length c.args.laid.now) places nodes c.requires.reverse c.args.laid.now refl c.requires.followable c.args.target c.requires.target c.loop-at.links c.copy_link.new.links c.loop-at.at inv.copied step.length step.copied step.others some);
+      copied = rw read (one_further (length c.args.laid.now) places nodes c.requires.can.reverse c.args.laid.now refl c.requires.can.followable c.args.target c.requires.target c.loop-at.links c.copy_link.new.links c.loop-at.at inv.copied step.places step.copied step.others some);
       listed = listed_after c.loop-at.links c.copy_link.new.links (number_of nodes c.loop-at.at) (IsListed c.loop-at.listed) (IsListed c.copy_link.new.listed) inv.listed step.others step.there step.kept;
       kept = λ node there. step.kept node (inv.kept node there);
     }
@@ -54,10 +55,10 @@ returns c =
     let places = c.args.layout.now.places.items in
     let nodes = c.args.layout.now.nodes.items in
     let step = c.copy_link-2.ensures in
-    let all = all_copied (length c.args.laid.now) places nodes c.requires.reverse c.args.laid.now refl c.requires.followable c.args.target c.requires.target c.loop-at.links c.copy_link-2.new.links c.loop-at.at inv.copied step.length step.copied step.others level in
+    let all = all_copied (length c.args.laid.now) places nodes c.requires.can.reverse c.args.laid.now refl c.requires.can.followable c.args.target c.requires.target c.loop-at.links c.copy_link-2.new.links c.loop-at.at inv.copied step.places step.copied step.others level in
     record {
       copied = all.0;
-      target = all.1;
+      of_target = all.1;
       listed = listed_after c.loop-at.links c.copy_link-2.new.links (number_of nodes c.loop-at.at) (IsListed c.loop-at.listed) (IsListed c.copy_link-2.new.listed) inv.listed step.others step.there step.kept;
       kept = λ node there. step.kept node (inv.kept node there);
     }

@@ -1,7 +1,8 @@
-use Rattle.std.proofs.Common.{◌≡◌, length, refl, subst, sym, ◌∙◌}
+use Rattle.std.proofs.Common.{rules, ◌≡◌, length, refl, subst, sym, ◌∙◌}
 use Rattle.ea_road.specs.Queries.{IsAskedBy, IsProblem}
 use Rattle.ea_road.specs.Roads.{Roads}
 use Rattle.ea_search.specs.Answers.{IsAnswer}
+use Rattle.ea_paths.proofs.Found.{found_walks}
 use Rattle.ea_layout.proofs.Copying.{copied_answer, copied_stored, laid_level}
 use Rattle.ea_layout.proofs.Renaming.{problem_laid}
 use Rattle.ea_layout.proofs.laid_search.LaidSearch.walks.Goals as goal
@@ -9,67 +10,71 @@ use Rattle.ea_layout.proofs.laid_search.LaidSearch.walks.Goals as goal
 pub find_walks-search-requires-clause-problem : goal.find_walks-search-requires-clause-problem
 find_walks-search-requires-clause-problem g c =
     let it = c.requires in
-    let reverse = it.laid_out.reverse in
-    subst (λ (r : Roads). IsProblem r (g.T.TravelTimes.classes c.args.times.now) c.args.laid.now) (sym it.laid_out.network) (problem_laid c.args.network.now _ c.args.query.now c.args.laid.now c.args.layout.now.places.items c.args.layout.now.nodes.items c.keeps_limits.ensures reverse it.asks it.problem)
+    let reverse = it.can.laid_out.reverse in
+    subst (λ (r : Roads). IsProblem r (g.T.TravelTimes.classes c.args.times.now) c.args.laid.now) (sym it.can.laid_out.network) (problem_laid c.args.network.now _ c.args.query.now c.args.laid.now c.args.layout.now.places.items c.args.layout.now.nodes.items c.keeps_limits.ensures reverse it.asks it.can.problem)
 
-pub write_labels-requires-clause-inside : goal.write_labels-requires-clause-inside
-write_labels-requires-clause-inside g c =
-    let reverse = c.requires.laid_out.reverse in
-    let long = reverse.there_length in
-    rw (c.deref.ensures.value, long) reverse.there_node
-
-pub write_links-requires-clause-level : goal.write_links-requires-clause-level
-write_links-requires-clause-level g c =
+pub write_labels-requires : goal.write_labels-requires
+write_labels-requires g c =
     let it = c.requires in
-    let reverse = it.laid_out.reverse in
+    let reverse = it.can.laid_out.reverse in
+    let long = reverse.there_length in
+    record {
+      can = search rules;
+      many = search rules;
+      inside = rw (c.deref.ensures.value, long) reverse.there_node;
+      is_node = search rules;
+    }
+
+pub write_links-requires : goal.write_links-requires
+write_links-requires g c =
+    let it = c.requires in
+    let reverse = it.can.laid_out.reverse in
     let long = reverse.there_length in
     let answers = g.T.TravelTimes.answers c.args.times.now in
     let answer = c.find_walks-search.result.answer in
-    let has = subst (λ (r : Roads). IsAnswer r answers c.args.laid.now answer) it.laid_out.network c.find_walks-search.ensures.answer in
+    let has = subst (λ (r : Roads). IsAnswer r answers c.args.laid.now answer) it.can.laid_out.network c.find_walks-search.ensures.answer in
     let said = rw (c.deref.ensures.value, long, c.target.ensures.target, c.labels.ensures.labels, c.answer.ensures) at c.write_labels.ensures.copied in
     let stored = rw c.answer.ensures at c.labels.ensures.stored in
-    λ node same some.
-    let asked = sym c.target-2.ensures.target ∙ same in
-    rw (c.links.ensures.links, c.answer-2.ensures) (laid_level c.args.network.now answers c.args.query.now c.args.laid.now c.args.layout.now.places.items c.args.layout.now.nodes.items c.keeps_limits.ensures reverse it.problem.sources it.asks answer c.write_labels.new.self.labels.items c.write_labels.new.self.links.items said stored has node (it.problem.target node asked) (subst (λ t. IsAskedBy t node) (sym asked) refl) some)
-
-pub write_links-requires-clause-cleared : goal.write_links-requires-clause-cleared
-write_links-requires-clause-cleared g c = λ asked same. c.write_labels.ensures.cleared asked (c.target.ensures.target ∙ sym c.target-2.ensures.target ∙ same)
+    record {
+      can = search rules;
+      copies = record {
+        places = search rules;
+        reverse = search rules;
+        followable = rw (c.links.ensures.links, c.answer-2.ensures) (stored.followable has.walks);
+      };
+      is_node = search rules;
+      level = λ node same some.
+          let asked = sym c.target-2.ensures.target ∙ same in
+          rw (c.links.ensures.links, c.answer-2.ensures) (laid_level c.args.network.now answers c.args.query.now c.args.laid.now c.args.layout.now.places.items c.args.layout.now.nodes.items c.keeps_limits.ensures reverse it.can.problem.sources it.asks answer c.write_labels.new.self.labels.items c.write_labels.new.self.links.items said stored has node (it.can.problem.target node asked) (subst (λ t. IsAskedBy t node) (sym asked) refl) some);
+      cleared = λ asked same. c.write_labels.ensures.cleared asked (c.target.ensures.target ∙ sym c.target-2.ensures.target ∙ same);
+    }
 
 pub new-requires : goal.new-requires
 new-requires g c =
     let it = c.requires in
-    let reverse = it.laid_out.reverse in
+    let reverse = it.can.laid_out.reverse in
     let long = reverse.there_length in
     let answers = g.T.TravelTimes.answers c.args.times.now in
     let answer = c.find_walks-search.result.answer in
-    let has = subst (λ (r : Roads). IsAnswer r answers c.args.laid.now answer) it.laid_out.network c.find_walks-search.ensures.answer in
+    let has = subst (λ (r : Roads). IsAnswer r answers c.args.laid.now answer) it.can.laid_out.network c.find_walks-search.ensures.answer in
     let stored = rw c.answer.ensures at c.labels.ensures.stored in
     let many : length answer.links ≡ c.args.network.now.nodes = stored.links has.walks ∙ has.arrivals.nodes in
     let said = rw (c.deref.ensures.value, long, c.target.ensures.target, c.labels.ensures.labels, c.answer.ensures, ← c.write_links.ensures.labels) at c.write_labels.ensures.copied in
     let copied = rw (c.links.ensures.links, c.answer-2.ensures, many) at c.write_links.ensures.copied in
     let asked = rw (c.links.ensures.links, c.answer-2.ensures, many, c.target-2.ensures.target) at c.write_links.ensures.asked in
-    rw (c.nodes.ensures.nodes, c.target-3.ensures.target) (copied_stored c.args.network.now answers c.args.query.now c.args.laid.now c.args.layout.now.places.items c.args.layout.now.nodes.items c.keeps_limits.ensures reverse it.problem.sources it.asks answer c.write_links.new.self.labels.items c.write_links.new.self.links.items said stored copied asked has)
+    rw (c.nodes.ensures.nodes, c.target-3.ensures.target) (copied_stored c.args.network.now answers c.args.query.now c.args.laid.now c.args.layout.now.places.items c.args.layout.now.nodes.items c.keeps_limits.ensures reverse it.can.problem.sources it.asks answer c.write_links.new.self.labels.items c.write_links.new.self.links.items said stored copied asked has)
 
-pub returns-clause-answer : goal.returns-clause-answer
-returns-clause-answer g c =
+pub returns : goal.returns
+returns g c =
     let it = c.requires in
-    let reverse = it.laid_out.reverse in
+    let reverse = it.can.laid_out.reverse in
     let long = reverse.there_length in
     let answers = g.T.TravelTimes.answers c.args.times.now in
     let answer = c.find_walks-search.result.answer in
-    let has = subst (λ (r : Roads). IsAnswer r answers c.args.laid.now answer) it.laid_out.network c.find_walks-search.ensures.answer in
+    let has = subst (λ (r : Roads). IsAnswer r answers c.args.laid.now answer) it.can.laid_out.network c.find_walks-search.ensures.answer in
     let stored = rw c.answer.ensures at c.labels.ensures.stored in
     let many : length answer.links ≡ c.args.network.now.nodes = stored.links has.walks ∙ has.arrivals.nodes in
     let said = rw (c.deref.ensures.value, long, c.target.ensures.target, c.labels.ensures.labels, c.answer.ensures, ← c.write_links.ensures.labels) at c.write_labels.ensures.copied in
     let copied = rw (c.links.ensures.links, c.answer-2.ensures, many) at c.write_links.ensures.copied in
     let asked = rw (c.links.ensures.links, c.answer-2.ensures, many, c.target-2.ensures.target) at c.write_links.ensures.asked in
-    rw (c.new.ensures, c.nodes.ensures.nodes, c.target-3.ensures.target) (copied_answer c.args.network.now answers c.args.query.now c.args.laid.now c.args.layout.now.places.items c.args.layout.now.nodes.items c.keeps_limits.ensures reverse it.problem.sources it.asks answer c.write_links.new.self.labels.items c.write_links.new.self.links.items said stored copied asked has)
-
-pub write_links-requires-clause-followable : goal.write_links-requires-clause-followable
-write_links-requires-clause-followable g c =
-    let it = c.requires in
-    let answers = g.T.TravelTimes.answers c.args.times.now in
-    let answer = c.find_walks-search.result.answer in
-    let has = subst (λ (r : Roads). IsAnswer r answers c.args.laid.now answer) it.laid_out.network c.find_walks-search.ensures.answer in
-    let stored = rw c.answer.ensures at c.labels.ensures.stored in
-    rw (c.links.ensures.links, c.answer-2.ensures) (stored.followable has.walks)
+    rw (c.new.ensures, c.nodes.ensures.nodes, c.target-3.ensures.target) (found_walks c.args.network.now _ c.args.query.now _ (search rules) (search rules) (copied_answer c.args.network.now answers c.args.query.now c.args.laid.now c.args.layout.now.places.items c.args.layout.now.nodes.items c.keeps_limits.ensures reverse it.can.problem.sources it.asks answer c.write_links.new.self.labels.items c.write_links.new.self.links.items said stored copied asked has))

@@ -13,9 +13,9 @@ invariant_of-result c =
     let links = c.in_ok-links.ensures.items_if_clones_equal (λ y e. search rules) in
     rw (c.new.ensures, c.new-2.ensures, table, links) (
       record {
-        places = length-replicate c.args.nodes NONE ∙ sym c.requires.nodes;
+        places = length-replicate c.args.nodes NONE ∙ sym c.requires.0;
         reached = λ v has. absurd (has (bound_of-none _ v));
         linked = λ v. inl (link-none _ v);
       },
-      length-replicate c.room_of-room.result no_link ∙ c.room_of-room.ensures ∙ sym (ap (λ nodes. if c.args.walks then nodes else 0) c.requires.nodes) ∙ sym (ap (λ walks. if walks then c.args.search.nodes else 0) c.requires.walks),
+      length-replicate c.room_of-room.result no_link ∙ c.room_of-room.ensures ∙ sym (ap (λ nodes. if c.args.walks then nodes else 0) c.requires.0) ∙ sym (ap (λ walks. if walks then c.args.search.nodes else 0) c.requires.1),
     )

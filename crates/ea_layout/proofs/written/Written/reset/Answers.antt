@@ -4,12 +4,14 @@ use Rattle.ea_search.proofs.Entries.{bound_of-none}
 use Rattle.ea_paths.proofs.Linkings.{link-none}
 use Rattle.ea_layout.proofs.written.Written.reset.Goals as goal
 
-pub returns-clause-labels : goal.returns-clause-labels
-returns-clause-labels c =
-    let filled : length c.put_back.new.table ≡ c.args.self.now.labels.len = omega (arith, c.put_back.auto.table, c.deref_mut.ensures.len) in
-    rw (with_items_is c.args.self.now.labels c.put_back.new.table filled, c.put_back.ensures.labels) (λ node. bound_of-none _ node)
-
-pub returns-clause-links : goal.returns-clause-links
-returns-clause-links c =
-    let filled : length c.put_back.new.links ≡ c.args.self.now.links.len = omega (arith, c.put_back.auto.links, c.deref_mut-2.ensures.len) in
-    rw (with_items_is c.args.self.now.links c.put_back.new.links filled, c.put_back.ensures.links) (λ node. link-none _ node)
+pub returns : goal.returns
+returns c =
+    let old = c.args.self.now in
+    let labels : length c.put_back.new.table ≡ old.labels.len = omega (arith, c.put_back.auto.table, c.deref_mut.ensures.len) in
+    let links : length c.put_back.new.links ≡ old.links.len = omega (arith, c.put_back.auto.links, c.deref_mut-2.ensures.len) in
+    record {
+      places = rw (with_items_is old.labels c.put_back.new.table labels) (omega (arith, labels, old.labels.ok.0));
+      labels = rw (with_items_is old.labels c.put_back.new.table labels, c.put_back.ensures.labels) (λ node. bound_of-none _ node);
+      many = rw (with_items_is old.links c.put_back.new.links links) (omega (arith, links, old.links.ok.0));
+      links = rw (with_items_is old.links c.put_back.new.links links, c.put_back.ensures.links) (λ node. link-none _ node);
+    }
