@@ -2,9 +2,7 @@
 ghost use Rattle.std.specs.Prelude.{◌≡◌, IfOk, length, true, false, if◌then◌else◌};
 ghost use Rattle.ea_layout.specs.Copied.{AsksFor};
 ghost use Rattle.ea_layout.specs.Laid.{CanFindLaid};
-ghost use Rattle.ea_layout.specs.Orders.{LaysOut};
-ghost use Rattle.ea_paths.specs.Searches.{HasFound};
-ghost use Rattle.ea_road.specs.Queries.{IsProblem};
+ghost use Rattle.ea_paths.specs.Searches.{HasFoundArrivals, HasFoundWalks};
 ghost use Rattle.ea_search.specs.Answers.{HasArrivals, IsAnswer};
 
 use crate::laid_query::laid_query;
@@ -106,9 +104,7 @@ impl LaidSearch {
     ) -> LaidSearch
         requires can { CanFindLaid network.now layout.now (T.classes times.now) query.now self }
         requires asks { AsksFor layout.now.places.items query.now laid.now }
-        ensures arrivals { HasArrivals network.now (T.answers times.now) query.now result.answer }
-        ensures none { result.answer.walks ≡ false }
-        ensures room { (result.nodes ≡ self.nodes) × (result.walks ≡ self.walks) }
+        ensures { HasFoundArrivals network.now (T.answers times.now) query.now self result }
     {
         network.keeps_limits();
         let LaidSearch {
@@ -148,7 +144,7 @@ impl LaidSearch {
         requires can { CanFindLaid network.now layout.now (T.classes times.now) query.now self }
         requires asks { AsksFor layout.now.places.items query.now laid.now }
         requires walks { self.walks ≡ true }
-        ensures { HasFound network.now (T.answers times.now) query.now true result }
+        ensures { HasFoundWalks network.now (T.answers times.now) query.now self.nodes result }
     {
         network.keeps_limits();
         let LaidSearch {
@@ -187,9 +183,7 @@ impl LaidSearch {
         times: &T,
         query: &Query,
     ) -> Result<LaidSearch, AllocError>
-        requires laid_out { LaysOut network.now layout.now }
-        requires problem { IsProblem network.now (T.classes times.now) query.now }
-        requires nodes { self.nodes ≡ network.now.nodes }
+        requires { CanFindLaid network.now layout.now (T.classes times.now) query.now self }
         ensures arrivals { IfOk result (λ laid.
             HasArrivals network.now (T.answers times.now) query.now laid.answer) }
         ensures none { IfOk result (λ laid. laid.answer.walks ≡ false) }
@@ -209,9 +203,7 @@ impl LaidSearch {
         times: &T,
         query: &Query,
     ) -> Result<LaidSearch, AllocError>
-        requires laid_out { LaysOut network.now layout.now }
-        requires problem { IsProblem network.now (T.classes times.now) query.now }
-        requires nodes { self.nodes ≡ network.now.nodes }
+        requires can { CanFindLaid network.now layout.now (T.classes times.now) query.now self }
         requires walks { self.walks ≡ true }
         ensures answer { IfOk result (λ laid.
             IsAnswer network.now (T.answers times.now) query.now laid.answer) }

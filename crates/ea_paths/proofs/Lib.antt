@@ -9,5 +9,4 @@ pub mod Followed
 pub mod Answered
 pub mod LedAnswers
 pub mod Guided
-pub mod Found
 pub mod Labelled

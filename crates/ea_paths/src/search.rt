@@ -1,9 +1,7 @@
 //! The arrays of searches by one thread, reused from query to query.
-ghost use Rattle.std.specs.Prelude.{◌≡◌, true, false, None, length, map, if◌then◌else◌, IfOk};
+ghost use Rattle.std.specs.Prelude.{◌≡◌, true, false, None, map, if◌then◌else◌, IfOk};
 ghost use Rattle.ea_road.specs.Queries.{IsProblem};
-ghost use Rattle.ea_search.specs.Answers.{HasArrivals, IsAnswer};
-ghost use Rattle.ea_search.specs.Frontiers.{HaveNone};
-ghost use Rattle.ea_paths.specs.Searches.{AreReset, CanBegin, CanFind, HasEnded, HasFound};
+ghost use Rattle.ea_paths.specs.Searches.{AreReset, CanBegin, CanFind, HasEnded, HasFoundArrivals, HasFoundWalks};
 
 mod led;
 
@@ -101,13 +99,12 @@ fn find<T: TravelTimes, L: Table>(
     table: &mut L,
 ) -> (Vec<Vec<(u64, u32)>>, Open)
     requires problem { IsProblem network.now (T.classes times.now) query.now }
-    requires begins { CanBegin network.now.nodes (L.labels table.old) (L.had table.old) todo }
-    requires lists { (length lists.items ≡ 66) × HaveNone (map (λ l. l.items) lists.items) }
+    requires begins { CanBegin network.now.nodes (L.labels table.old) (L.had table.old)
+        (map (λ l. l.items) lists.items) todo }
     ensures ended { HasEnded network.now (T.answers times.now) query.now
-        (L.labels table.new) (L.met table.new) (L.had table.new) (L.lists table.new) result.1 }
+        (L.labels table.new) (L.met table.new) (L.had table.new) (L.lists table.new)
+        (map (λ l. l.items) result.0.items) result.1 }
     ensures walks { result.1.walks ≡ todo.walks }
-    ensures lists { (length result.0.items ≡ 66)
-        × HaveNone (map (λ l. l.items) result.0.items) }
 {
     let mut frontier = Frontier::over(lists, todo, width);
     search(network, times, query, table, &mut frontier);
@@ -119,8 +116,7 @@ fn find<T: TravelTimes, L: Table>(
 impl Search {
     /// Arrays for this number of nodes, with room for walks or without.
     fn with_room(alloc: Global, nodes: u32, walks: bool) -> Result<Search, AllocError>
-        ensures nodes { IfOk result (λ search. search.nodes ≡ nodes) }
-        ensures walks { IfOk result (λ search. search.walks ≡ walks) }
+        ensures { IfOk result (λ search. (search.nodes ≡ nodes) × (search.walks ≡ walks)) }
     {
         let waiting = Waiting::reserve(alloc, nodes)?;
         let lists = empty_lists(alloc)?;
@@ -207,11 +203,8 @@ impl Search {
         times: &T,
         query: &Query,
     ) -> Search
-        requires problem { IsProblem network.now (T.classes times.now) query.now }
-        requires nodes { self.nodes ≡ network.now.nodes }
-        ensures arrivals { HasArrivals network.now (T.answers times.now) query.now result.answer }
-        ensures none { result.answer.walks ≡ false }
-        ensures room { (result.nodes ≡ self.nodes) × (result.walks ≡ self.walks) }
+        requires { CanFind network.now (T.classes times.now) query.now self }
+        ensures { HasFoundArrivals network.now (T.answers times.now) query.now self result }
     {
         let walks = self.walks;
         let Arrays {
@@ -245,11 +238,9 @@ impl Search {
 
     /// Answers a query with its canonical walks. Else like `find_arrivals`.
     pub fn find_walks<T: TravelTimes>(self, network: &Network, times: &T, query: &Query) -> Search
-        requires problem { IsProblem network.now (T.classes times.now) query.now }
-        requires nodes { self.nodes ≡ network.now.nodes }
+        requires can { CanFind network.now (T.classes times.now) query.now self }
         requires walks { self.walks ≡ true }
-        ensures answer { IsAnswer network.now (T.answers times.now) query.now result.answer }
-        ensures room { (result.nodes ≡ self.nodes) × (result.walks ≡ true) }
+        ensures { HasFoundWalks network.now (T.answers times.now) query.now self.nodes result }
     {
         if query.target().is_none() {
             self.find_all_walks(network, times, query)
@@ -263,7 +254,7 @@ impl Search {
         requires can { CanFind network.now (T.classes times.now) query.now self }
         requires walks { self.walks ≡ true }
         requires all { query.now.target ≡ None }
-        ensures { HasFound network.now (T.answers times.now) query.now true result }
+        ensures { HasFoundWalks network.now (T.answers times.now) query.now self.nodes result }
     {
         let Arrays {
             table,
@@ -306,7 +297,7 @@ impl Search {
     fn find_pair_walk<T: TravelTimes>(self, network: &Network, times: &T, query: &Query) -> Search
         requires can { CanFind network.now (T.classes times.now) query.now self }
         requires walks { self.walks ≡ true }
-        ensures { HasFound network.now (T.answers times.now) query.now true result }
+        ensures { HasFoundWalks network.now (T.answers times.now) query.now self.nodes result }
     {
         let Arrays {
             table,

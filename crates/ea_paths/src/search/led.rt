@@ -2,11 +2,9 @@
 ghost use Rattle.std.specs.Prelude.{◌≡◌, true, IfSome, length, replicate};
 ghost use Rattle.ea_road.specs.declared.TheConstants.{NONE};
 ghost use Rattle.ea_road.specs.Labels.{label_of};
-ghost use Rattle.ea_road.specs.Queries.{IsProblem};
-ghost use Rattle.ea_search.specs.Answers.{HasArrivals, IsAnswer};
 ghost use Rattle.ea_hierarchy.specs.Preparations.{IsPreparedFor};
 ghost use Rattle.ea_goal.specs.Led.{IsLedTo};
-ghost use Rattle.ea_paths.specs.Searches.{AreLabelled, AsksPair, CanFind, GetLabels, HasFound, IsUnlinked};
+ghost use Rattle.ea_paths.specs.Searches.{AreLabelled, AsksPair, CanFind, CanLead, GetLabels, HasFound, HasFoundWalks, IsUnlinked};
 
 use crate::answer::Answer;
 use crate::link_search::link_all;
@@ -58,7 +56,7 @@ fn linked<T: TravelTimes>(
     requires labelled { AreLabelled network.now.nodes true arrays }
     requires led { IsLedTo network.now (T.answers times.now) query.now.sources target
         (label_of arrays.table.items) }
-    ensures { HasFound network.now (T.answers times.now) query.now true result }
+    ensures { HasFoundWalks network.now (T.answers times.now) query.now network.now.nodes result }
 {
     let Arrays {
         table,
@@ -106,8 +104,8 @@ fn lead_arrays<T: TravelTimes>(
     query: &Query,
     target: u32,
 ) -> (Arrays, bool)
-    requires pair { AsksPair network.now (T.classes times.now) query.now target }
-    requires prepared { IsPreparedFor network.now (T.answers times.now) prepared.now }
+    requires can { CanLead network.now (T.answers times.now) (T.classes times.now)
+        prepared.now query.now target }
     requires guide { guide ≡ network.now.nodes }
     requires labels { arrays.table.items ≡ replicate network.now.nodes NONE }
     ensures labels { GetLabels network.now.nodes arrays result.0 }
@@ -147,12 +145,8 @@ fn lead_arrays<T: TravelTimes>(
 impl Search {
     /// Answers a query, with its canonical walks if there is room for walks. Else like `find_arrivals`.
     pub fn find<T: TravelTimes>(self, network: &Network, times: &T, query: &Query) -> Search
-        requires problem { IsProblem network.now (T.classes times.now) query.now }
-        requires nodes { self.nodes ≡ network.now.nodes }
-        ensures arrivals { HasArrivals network.now (T.answers times.now) query.now result.answer }
-        ensures answer { self.walks ≡ true
-            → IsAnswer network.now (T.answers times.now) query.now result.answer }
-        ensures room { (result.nodes ≡ self.nodes) × (result.walks ≡ self.walks) }
+        requires { CanFind network.now (T.classes times.now) query.now self }
+        ensures { HasFound network.now (T.answers times.now) query.now self result }
     {
         if self.walks {
             self.find_walks(network, times, query)
@@ -172,13 +166,9 @@ impl Search {
         prepared: &Prepared,
         query: &Query,
     ) -> Search
-        requires problem { IsProblem network.now (T.classes times.now) query.now }
-        requires nodes { self.nodes ≡ network.now.nodes }
+        requires can { CanFind network.now (T.classes times.now) query.now self }
         requires prepared { IsPreparedFor network.now (T.answers times.now) prepared.now }
-        ensures arrivals { HasArrivals network.now (T.answers times.now) query.now result.answer }
-        ensures answer { self.walks ≡ true
-            → IsAnswer network.now (T.answers times.now) query.now result.answer }
-        ensures room { (result.nodes ≡ self.nodes) × (result.walks ≡ self.walks) }
+        ensures { HasFound network.now (T.answers times.now) query.now self result }
     {
         match query.target() {
             Some(target) => self.find_target(alloc, network, times, prepared, query, target),
@@ -196,10 +186,10 @@ impl Search {
         query: &Query,
         target: u32,
     ) -> Search
-        requires pair { AsksPair network.now (T.classes times.now) query.now target }
+        requires can { CanLead network.now (T.answers times.now) (T.classes times.now)
+            prepared.now query.now target }
         requires nodes { self.nodes ≡ network.now.nodes }
-        requires prepared { IsPreparedFor network.now (T.answers times.now) prepared.now }
-        ensures { HasFound network.now (T.answers times.now) query.now self.walks result }
+        ensures { HasFound network.now (T.answers times.now) query.now self result }
     {
         let walks = self.walks;
         let nodes = network.nodes();

@@ -1,7 +1,12 @@
+use Rattle.std.proofs.Common.{sym, ◌∙◌}
+use Rattle.std.proofs.lemmas.List.{length-map}
 use Rattle.ea_paths.proofs.search.find.Goals as goal
 
+pub over-frontier-requires-clause-length : goal.over-frontier-requires-clause-length
+over-frontier-requires-clause-length g c = sym (length-map _ _) ∙ c.requires.begins.emptied.0
+
 pub over-frontier-requires-clause-entries : goal.over-frontier-requires-clause-entries
-over-frontier-requires-clause-entries g c = λ entry is. absurd (c.requires.lists.1 entry is)
+over-frontier-requires-clause-entries g c = λ entry is. absurd (c.requires.begins.emptied.1 entry is)
 
 pub finish_noted-todo-requires-clause-underway : goal.finish_noted-todo-requires-clause-underway
 finish_noted-todo-requires-clause-underway g c = rw c.into_parts-lists.ensures.todo c.search.ensures.underway
@@ -14,7 +19,5 @@ returns-clause-ended g c =
       met = finish.met;
       had = finish.had c.search.ensures.had;
       listed = finish.listed c.search.ensures.listed;
+      emptied = (rw length-map c.into_parts-lists.ensures.length, rw c.into_parts-lists.ensures.lists c.search.ensures.none);
     }
-
-pub returns-clause-lists : goal.returns-clause-lists
-returns-clause-lists g c = (c.into_parts-lists.ensures.length, rw c.into_parts-lists.ensures.lists c.search.ensures.none)

@@ -1,4 +1,4 @@
-use Rattle.std.proofs.Common.{rules, false, subst, sym}
+use Rattle.std.proofs.Common.{rules, refl, false, subst, sym}
 use Rattle.ea_road.specs.Queries.{IsProblem}
 use Rattle.ea_road.specs.Roads.{Roads}
 use Rattle.ea_search.specs.Answers.{HasArrivals}
@@ -6,11 +6,14 @@ use Rattle.ea_layout.proofs.Copying.{copied_arrivals}
 use Rattle.ea_layout.proofs.Renaming.{problem_laid}
 use Rattle.ea_layout.proofs.laid_search.LaidSearch.arrivals.Goals as goal
 
-pub find_arrivals-search-requires-clause-problem : goal.find_arrivals-search-requires-clause-problem
-find_arrivals-search-requires-clause-problem g c =
+pub find_arrivals-search-requires : goal.find_arrivals-search-requires
+find_arrivals-search-requires g c =
     let it = c.requires in
     let reverse = it.can.laid_out.reverse in
-    subst (λ (r : Roads). IsProblem r (g.T.TravelTimes.classes c.args.times.now) c.args.laid.now) (sym it.can.laid_out.network) (problem_laid c.args.network.now _ c.args.query.now c.args.laid.now c.args.layout.now.places.items c.args.layout.now.nodes.items c.keeps_limits.ensures reverse it.asks it.can.problem)
+    record {
+      problem = subst (λ (r : Roads). IsProblem r (g.T.TravelTimes.classes c.args.times.now) c.args.laid.now) (sym it.can.laid_out.network) (problem_laid c.args.network.now _ c.args.query.now c.args.laid.now c.args.layout.now.places.items c.args.layout.now.nodes.items c.keeps_limits.ensures reverse it.asks it.can.problem);
+      nodes = search rules;
+    }
 
 pub write_labels-requires : goal.write_labels-requires
 write_labels-requires g c =
@@ -24,8 +27,8 @@ write_labels-requires g c =
       is_node = search rules;
     }
 
-pub returns-clause-arrivals : goal.returns-clause-arrivals
-returns-clause-arrivals g c =
+pub returns : goal.returns
+returns g c =
     let it = c.requires in
     let reverse = it.can.laid_out.reverse in
     let long = reverse.there_length in
@@ -33,4 +36,4 @@ returns-clause-arrivals g c =
     let answer = c.find_arrivals-search.result.answer in
     let has = subst (λ (r : Roads). HasArrivals r answers c.args.laid.now answer) it.can.laid_out.network c.find_arrivals-search.ensures.arrivals in
     let said = rw (c.deref.ensures.value, long, c.target.ensures.target, c.labels.ensures.labels, c.answer.ensures) at c.write_labels.ensures.copied in
-    rw (c.new.ensures, c.nodes.ensures.nodes, c.target-2.ensures.target) (copied_arrivals c.args.network.now answers c.args.query.now c.args.laid.now c.args.layout.now.places.items c.args.layout.now.nodes.items c.keeps_limits.ensures reverse it.can.problem.sources it.asks answer c.write_labels.new.self.labels.items c.write_labels.new.self.links.items said false has)
+    rw (c.new.ensures, c.nodes.ensures.nodes, c.target-2.ensures.target) (record { arrivals = (copied_arrivals c.args.network.now answers c.args.query.now c.args.laid.now c.args.layout.now.places.items c.args.layout.now.nodes.items c.keeps_limits.ensures reverse it.can.problem.sources it.asks answer c.write_labels.new.self.labels.items c.write_labels.new.self.links.items said false has); none = refl; room = search rules })

@@ -2,16 +2,18 @@ use Rattle.std.proofs.Common.{rules, ◌≡◌, length, refl, subst, sym, ◌∙
 use Rattle.ea_road.specs.Queries.{IsAskedBy, IsProblem}
 use Rattle.ea_road.specs.Roads.{Roads}
 use Rattle.ea_search.specs.Answers.{IsAnswer}
-use Rattle.ea_paths.proofs.Found.{found_walks}
 use Rattle.ea_layout.proofs.Copying.{copied_answer, copied_stored, laid_level}
 use Rattle.ea_layout.proofs.Renaming.{problem_laid}
 use Rattle.ea_layout.proofs.laid_search.LaidSearch.walks.Goals as goal
 
-pub find_walks-search-requires-clause-problem : goal.find_walks-search-requires-clause-problem
-find_walks-search-requires-clause-problem g c =
+pub find_walks-search-requires-clause-can : goal.find_walks-search-requires-clause-can
+find_walks-search-requires-clause-can g c =
     let it = c.requires in
     let reverse = it.can.laid_out.reverse in
-    subst (λ (r : Roads). IsProblem r (g.T.TravelTimes.classes c.args.times.now) c.args.laid.now) (sym it.can.laid_out.network) (problem_laid c.args.network.now _ c.args.query.now c.args.laid.now c.args.layout.now.places.items c.args.layout.now.nodes.items c.keeps_limits.ensures reverse it.asks it.can.problem)
+    record {
+      problem = subst (λ (r : Roads). IsProblem r (g.T.TravelTimes.classes c.args.times.now) c.args.laid.now) (sym it.can.laid_out.network) (problem_laid c.args.network.now _ c.args.query.now c.args.laid.now c.args.layout.now.places.items c.args.layout.now.nodes.items c.keeps_limits.ensures reverse it.asks it.can.problem);
+      nodes = search rules;
+    }
 
 pub write_labels-requires : goal.write_labels-requires
 write_labels-requires g c =
@@ -77,4 +79,4 @@ returns g c =
     let said = rw (c.deref.ensures.value, long, c.target.ensures.target, c.labels.ensures.labels, c.answer.ensures, ← c.write_links.ensures.labels) at c.write_labels.ensures.copied in
     let copied = rw (c.links.ensures.links, c.answer-2.ensures, many) at c.write_links.ensures.copied in
     let asked = rw (c.links.ensures.links, c.answer-2.ensures, many, c.target-2.ensures.target) at c.write_links.ensures.asked in
-    rw (c.new.ensures, c.nodes.ensures.nodes, c.target-3.ensures.target) (found_walks c.args.network.now _ c.args.query.now _ (search rules) (search rules) (copied_answer c.args.network.now answers c.args.query.now c.args.laid.now c.args.layout.now.places.items c.args.layout.now.nodes.items c.keeps_limits.ensures reverse it.can.problem.sources it.asks answer c.write_links.new.self.labels.items c.write_links.new.self.links.items said stored copied asked has))
+    rw (c.new.ensures, c.nodes.ensures.nodes, c.target-3.ensures.target) (record { answer = (copied_answer c.args.network.now answers c.args.query.now c.args.laid.now c.args.layout.now.places.items c.args.layout.now.nodes.items c.keeps_limits.ensures reverse it.can.problem.sources it.asks answer c.write_links.new.self.labels.items c.write_links.new.self.links.items said stored copied asked has); room = search rules })

@@ -1,6 +1,6 @@
 use Rattle.std.proofs.Common.{◌≡◌, ℕ, true, length, refl, sym, ap, ◌∙◌, ◌⊎◌, inl, inr, arith}
 use Rattle.std.proofs.lemmas.Bool.{cases_eq}
-use Rattle.std.proofs.lemmas.List.{length-map, with_items_is}
+use Rattle.std.proofs.lemmas.List.{with_items_is}
 use Rattle.ea_road.specs.declared.TheConstants.{NONE}
 use Rattle.ea_search.specs.Links.{link, no_link}
 use Rattle.ea_search.specs.Listings.{IsListed}
@@ -8,7 +8,6 @@ use Rattle.ea_search.specs.Underway.{bound_of}
 use Rattle.ea_search.specs.Worklist.{Worklist}
 use Rattle.ea_paths.proofs.Answered.{is_answer, stored}
 use Rattle.ea_search.proofs.Listings.{room_again}
-use Rattle.ea_paths.proofs.Found.{found_walks}
 use Rattle.ea_paths.proofs.Guided.{fits_too}
 use Rattle.ea_paths.proofs.search.Search.find_pair_walk.Goals as goal
 
@@ -18,6 +17,7 @@ find-lists-requires-clause-begins g c =
     record {
       none = rw (arrays.labels, c.requires.can.nodes) refl;
       unmet = λ v u k had. had;
+      emptied = arrays.lists;
       room = ap (λ (w : Worklist). w.nodes) arrays.todo ∙ c.requires.can.nodes;
     }
 
@@ -50,8 +50,8 @@ invariant_of-result g c =
         nobody = c.link_all.ensures.linked.nobody;
         labels = finished.places ∙ sym nodes;
         links = links.places ∙ sym nodes;
-        many = rw length-map c.find-lists.ensures.lists.0;
-        none = c.find-lists.ensures.lists.1;
+        many = c.find-lists.ensures.ended.emptied.0;
+        none = c.find-lists.ensures.ended.emptied.1;
         reached = c.find-lists.ensures.ended.listed;
         linked = linked;
       };
@@ -71,4 +71,4 @@ returns g c =
     let links = rw (c.sources-sources.ensures.sources, c.deref.ensures.value) at c.link_all.ensures.linked.are_links in
     let many = room_again _ _ _ true _ c.into_parts-waiting.ensures.links (sym finished.room) (c.find-lists.ensures.walks ∙ ap (λ (w : Worklist). w.walks) c.into_arrays-table.ensures.todo ∙ c.requires.walks) in
     let filled : length c.link_all.new.links ≡ c.into_parts-waiting.result.1.len = omega (arith, many, links.places, c.into_parts-waiting.result.1.ok.0) in
-    rw (c.new-answer.ensures, with_items_is c.into_parts-waiting.result.1 c.link_all.new.links filled, c.nodes.ensures.nodes, c.target.ensures.target) (found_walks c.args.network.now _ c.args.query.now _ c.link_all.ensures.linked.room refl (is_answer c.args.network.now _ _ c.args.query.now c.nodes.ensures.network c.requires.can.problem (g.met.T.TravelTimes.fifo c.args.times.now) c.find-lists.new.table.labels.items finished.places finished.fixed c.link_all.new.links links))
+    rw (c.new-answer.ensures, with_items_is c.into_parts-waiting.result.1 c.link_all.new.links filled, c.nodes.ensures.nodes, c.target.ensures.target) (record { answer = (is_answer c.args.network.now _ _ c.args.query.now c.nodes.ensures.network c.requires.can.problem (g.met.T.TravelTimes.fifo c.args.times.now) c.find-lists.new.table.labels.items finished.places finished.fixed c.link_all.new.links links); room = (c.link_all.ensures.linked.room ∙ sym c.requires.can.nodes, refl) })

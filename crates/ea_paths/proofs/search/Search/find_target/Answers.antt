@@ -45,7 +45,7 @@ pub returns-else-walks : goal.returns-else-walks
 returns-else-walks g c =
     let answer = c.unlinked-else-walks.ensures.answer in
     let room = c.unlinked-else-walks.ensures.room in
-    let pair = c.requires.pair in
+    let pair = c.requires.can.pair in
     let network = c.nodes-nodes.ensures.network in
     let led = c.lead_arrays-arrays.ensures.led c.if-not-is_found.false in
     let has = led_has_arrivals c.args.network.now _ _ c.args.query.now _ pair.asks network pair.problem (g.met.T.TravelTimes.fifo c.args.times.now) _ c.lead_arrays-arrays.ensures.labels.labels led c.unlinked-else-walks.result.answer.links c.unlinked-else-walks.result.answer.walks in
@@ -57,5 +57,5 @@ returns-else-walks g c =
         least = rw answer.labels has.least;
       };
       answer = λ yes. absurd (false≢true (sym c.if-walks.false ∙ walks ∙ yes));
-      room = (room.0 ∙ c.nodes-nodes.ensures.nodes, room.1 ∙ walks);
+      room = (room.0 ∙ c.nodes-nodes.ensures.nodes ∙ sym c.requires.nodes, room.1 ∙ walks);
     }

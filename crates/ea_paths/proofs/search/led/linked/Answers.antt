@@ -1,6 +1,6 @@
 use Rattle.std.proofs.Common.{◌≡◌, ℕ, true, length, refl, sym, ap, ◌∙◌, ◌⊎◌, inl, inr, arith}
 use Rattle.std.proofs.lemmas.Bool.{cases_eq}
-use Rattle.std.proofs.lemmas.List.{length-map, with_items_is}
+use Rattle.std.proofs.lemmas.List.{with_items_is}
 use Rattle.ea_road.specs.declared.TheConstants.{NONE}
 use Rattle.ea_search.specs.Links.{link, no_link}
 use Rattle.ea_search.specs.Listings.{IsListed}
@@ -8,7 +8,6 @@ use Rattle.ea_search.specs.Underway.{bound_of}
 use Rattle.ea_search.specs.Worklist.{Worklist}
 use Rattle.ea_search.proofs.Listings.{room_again}
 use Rattle.ea_paths.proofs.LedAnswers.{led_is_answer, led_stored}
-use Rattle.ea_paths.proofs.Found.{found_walks}
 use Rattle.ea_paths.proofs.Guided.{fits_too}
 use Rattle.ea_paths.proofs.search.led.linked.Goals as goal
 
@@ -39,7 +38,7 @@ invariant_of-result g c =
         nobody = c.link_all.ensures.linked.nobody;
         labels = c.requires.labelled.labels ∙ sym nodes;
         links = links.places ∙ sym nodes;
-        many = rw length-map c.requires.labelled.lists.0;
+        many = c.requires.labelled.lists.0;
         none = c.requires.labelled.lists.1;
         reached = c.requires.labelled.listed;
         linked = linked;
@@ -59,4 +58,4 @@ returns g c =
     let links = rw (c.sources-sources.ensures.sources, c.deref.ensures.value) at c.link_all.ensures.linked.are_links in
     let many = room_again _ _ _ true _ c.into_parts-waiting.ensures.links (sym (ap (λ (w : Worklist). w.nodes) c.requires.labelled.todo)) (ap (λ (w : Worklist). w.walks) c.requires.labelled.todo) in
     let filled : length c.link_all.new.links ≡ c.into_parts-waiting.result.1.len = omega (arith, many, links.places, c.into_parts-waiting.result.1.ok.0) in
-    rw (c.new.ensures, with_items_is c.into_parts-waiting.result.1 c.link_all.new.links filled, c.nodes.ensures.nodes, sym c.requires.pair.asks) (found_walks c.args.network.now _ c.args.query.now _ c.link_all.ensures.linked.room refl (led_is_answer c.args.network.now _ _ c.args.query.now c.args.target c.requires.pair.asks c.nodes.ensures.network c.requires.pair.problem (g.met.T.TravelTimes.fifo c.args.times.now) c.args.arrays.table.items c.requires.labelled.labels c.requires.led c.link_all.new.links links))
+    rw (c.new.ensures, with_items_is c.into_parts-waiting.result.1 c.link_all.new.links filled, c.nodes.ensures.nodes, sym c.requires.pair.asks) (record { answer = (led_is_answer c.args.network.now _ _ c.args.query.now c.args.target c.requires.pair.asks c.nodes.ensures.network c.requires.pair.problem (g.met.T.TravelTimes.fifo c.args.times.now) c.args.arrays.table.items c.requires.labelled.labels c.requires.led c.link_all.new.links links); room = (c.link_all.ensures.linked.room, refl) })

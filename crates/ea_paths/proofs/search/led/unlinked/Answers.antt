@@ -1,5 +1,4 @@
 use Rattle.std.proofs.Common.{sym, ap, ◌∙◌, inl}
-use Rattle.std.proofs.lemmas.List.{length-map}
 use Rattle.ea_paths.proofs.Linkings.{link-none}
 use Rattle.ea_search.specs.Worklist.{Worklist}
 use Rattle.ea_search.proofs.Listings.{room_again}
@@ -14,7 +13,7 @@ invariant_of-result c =
         nobody = c.into_parts-waiting.ensures.waiting ∙ ap (λ (w : Worklist). w.waiting) c.requires.todo;
         labels = c.requires.labels ∙ sym nodes;
         links = room_again _ _ _ _ _ c.into_parts-waiting.ensures.links c.into_parts-waiting.ensures.nodes (ap (λ (w : Worklist). w.walks) c.requires.todo);
-        many = rw length-map c.requires.lists.0;
+        many = c.requires.lists.0;
         none = c.requires.lists.1;
         reached = c.requires.listed;
         linked = rw c.into_parts-waiting.ensures.links (λ v. inl (link-none _ v));
