@@ -18,11 +18,30 @@ pub record CanCopyLabels (places laid labels : List ℕ) : Type 0 where
   pub lengths : (length laid ≡ length places) × (length labels ≡ length places)
   pub inside : StayNodes places
 
--- Links under the numbers of a layout can be copied into these links, and can be followed.
-pub record CanCopyLinks (layout : Layout) (laid links : List Link) : Type 0 where
+-- The label of a target was copied, and no other.
+pub record CopiesLabel (places laid : List ℕ) (target : ℕ) (labels labels' : List ℕ) : Type 0 where
+  pub copied : AreLabelsCopied (length places) (Some target) places laid labels'
+  pub others : (node : ℕ) → node ≢ target → bound_of labels' node ≡ bound_of labels node
+
+-- Links under the numbers of a layout can be copied into these links.
+pub record CanCopyLink (layout : Layout) (laid links : List Link) : Type 0 where
   pub places : length links ≡ length laid
   pub reverse : AreReverse (length laid) layout.places.items layout.nodes.items
+
+-- And they can be followed.
+pub record CanCopyLinks (layout : Layout) (laid links : List Link) : Type 0 where
+  pub can : CanCopyLink layout laid links
   pub followable : AreFollowable laid
+
+-- The link of each node was copied.
+pub record CopiesLinks (layout : Layout) (laid links' : List Link) : Type 0 where
+  pub copied : AreLinksCopied (length laid) layout.places.items layout.nodes.items laid links'
+  pub all : (node : ℕ) → IsNode (length laid) node → IsLinkCopied layout.places.items layout.nodes.items laid links' node
+
+-- The target is a node, and its link has a level.
+pub record HasWalkTo (layout : Layout) (laid : List Link) (target : ℕ) : Type 0 where
+  pub is_node : IsNode (length laid) target
+  pub level : HasLevel laid (number_of layout.places.items target)
 
 -- The link of this new number was copied to its node, which is listed. Other links stay.
 pub record CopiesLink (layout : Layout) (laid : List Link) (at : ℕ) (links links' : List Link) (listing listing' : Listing) : Type 0 where

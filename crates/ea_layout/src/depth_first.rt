@@ -53,8 +53,8 @@ fn visit_from(
 /// time in proportion to nodes and arcs, and for a while up to 4 bytes for each arc. An error comes only if
 /// memory was refused.
 pub(crate) fn depth_first(alloc: Global, network: &Network) -> Result<Order, AllocError>
-    ensures length { IfOk result (λ order. length order.places ≡ network.now.nodes) }
-    ensures all { IfOk result (λ order. AreAllPlaced order.places) }
+    ensures { IfOk result (λ order. (length order.places ≡ network.now.nodes)
+        × AreAllPlaced order.places) }
 {
     let mut order = Order::none(alloc, network.nodes())?;
     let mut stack = Vec::new(alloc);

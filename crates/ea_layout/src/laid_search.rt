@@ -69,8 +69,7 @@ impl LaidSearch {
     /// Arrays for searches in networks of this number of nodes, and for their walks. Fails only if memory is
     /// refused.
     pub fn reserve(alloc: Global, nodes: u32) -> Result<LaidSearch, AllocError>
-        ensures nodes { IfOk result (λ laid. laid.nodes ≡ nodes) }
-        ensures walks { IfOk result (λ laid. laid.walks ≡ true) }
+        ensures { IfOk result (λ laid. (laid.nodes ≡ nodes) × (laid.walks ≡ true)) }
     {
         let search = Search::reserve(alloc, nodes)?;
         LaidSearch::with_search(alloc, nodes, true, search)
@@ -79,8 +78,7 @@ impl LaidSearch {
     /// Arrays for searches in networks of this number of nodes, without walks. Fails only if memory is
     /// refused.
     pub fn reserve_without_walks(alloc: Global, nodes: u32) -> Result<LaidSearch, AllocError>
-        ensures nodes { IfOk result (λ laid. laid.nodes ≡ nodes) }
-        ensures walks { IfOk result (λ laid. laid.walks ≡ false) }
+        ensures { IfOk result (λ laid. (laid.nodes ≡ nodes) × (laid.walks ≡ false)) }
     {
         let search = Search::reserve_without_walks(alloc, nodes)?;
         LaidSearch::with_search(alloc, nodes, false, search)
@@ -187,8 +185,8 @@ impl LaidSearch {
         ensures arrivals { IfOk result (λ laid.
             HasArrivals network.now (T.answers times.now) query.now laid.answer) }
         ensures none { IfOk result (λ laid. laid.answer.walks ≡ false) }
-        ensures nodes { IfOk result (λ laid. laid.nodes ≡ self.nodes) }
-        ensures walks { IfOk result (λ laid. laid.walks ≡ self.walks) }
+        ensures room { IfOk result (λ laid.
+            (laid.nodes ≡ self.nodes) × (laid.walks ≡ self.walks)) }
     {
         let laid = laid_query(alloc, &layout.places, query)?;
         Ok(self.arrivals(network, layout, times, query, &laid))
@@ -207,8 +205,7 @@ impl LaidSearch {
         requires walks { self.walks ≡ true }
         ensures answer { IfOk result (λ laid.
             IsAnswer network.now (T.answers times.now) query.now laid.answer) }
-        ensures nodes { IfOk result (λ laid. laid.nodes ≡ self.nodes) }
-        ensures walks { IfOk result (λ laid. laid.walks ≡ true) }
+        ensures room { IfOk result (λ laid. (laid.nodes ≡ self.nodes) × (laid.walks ≡ true)) }
     {
         let laid = laid_query(alloc, &layout.places, query)?;
         Ok(self.walks(network, layout, times, query, &laid))

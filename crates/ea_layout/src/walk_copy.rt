@@ -1,8 +1,6 @@
 //! The walk to a target, written link by link under the numbers of the network.
 ghost use Rattle.std.specs.Prelude.{◌≡◌, ℕ, length};
-ghost use Rattle.ea_layout.specs.Copied.{HasLevel};
-ghost use Rattle.ea_layout.specs.Renamed.{AreReverse, number_of};
-ghost use Rattle.ea_layout.specs.Writing.{CanCopyLinks, CopiesLink, CopiesWalk};
+ghost use Rattle.ea_layout.specs.Writing.{CanCopyLink, CanCopyLinks, CopiesLink, CopiesWalk, HasWalkTo};
 ghost use Rattle.ea_road.specs.Roads.{IsNode};
 ghost use Rattle.ea_search.specs.Links.{link, no_link};
 
@@ -12,8 +10,7 @@ use ea_search::{Link, Listed};
 
 /// Copies the link of a new number to its node, and lists the node.
 fn copy_link(layout: &Layout, laid: &[Link], at: u32, links: &mut [Link], listed: &mut Listed)
-    requires length { length links.old ≡ length laid.now }
-    requires reverse { AreReverse (length laid.now) layout.now.places.items layout.now.nodes.items }
+    requires can { CanCopyLink layout.now laid.now links.old }
     requires at { IsNode (length laid.now) at }
     ensures { CopiesLink layout.now laid.now at links.old links.new listed.old listed.new }
 {
@@ -32,8 +29,7 @@ pub(crate) fn copy_walk(
     listed: &mut Listed,
 )
     requires can { CanCopyLinks layout.now laid.now links.old }
-    requires target { IsNode (length laid.now) target }
-    requires level { HasLevel laid.now (number_of layout.now.places.items target) }
+    requires target { HasWalkTo layout.now laid.now target }
     requires none { (node : ℕ) → link links.old node ≡ no_link }
     ensures { CopiesWalk layout.now laid.now target links.new listed.old listed.new }
 {

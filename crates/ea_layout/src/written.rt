@@ -1,10 +1,10 @@
 //! Arrays of labels and links under the numbers of the network, copied from those of a layout.
-ghost use Rattle.std.specs.Prelude.{◌≡◌, ◌≢◌, ℕ, None, Some, length};
-ghost use Rattle.ea_layout.specs.Copied.{AreLabelsCopied, AreLinksCopied, IsLinkCopied};
-ghost use Rattle.ea_layout.specs.Writing.{CanCopyLabels, CanCopyLinks, CanWriteLabels, CanWriteLinks, IsReset, WritesLabels, WritesLinks};
+ghost use Rattle.std.specs.Prelude.{None, Some, length};
+ghost use Rattle.ea_layout.specs.Copied.{AreLabelsCopied};
+ghost use Rattle.ea_layout.specs.Writing.{CanCopyLabels, CanCopyLinks, CanWriteLabels, CanWriteLinks, IsReset};
+ghost use Rattle.ea_layout.specs.Writing.{CopiesLabel, CopiesLinks, WritesLabels, WritesLinks};
 ghost use Rattle.ea_road.specs.Roads.{IsNode};
 ghost use Rattle.ea_search.specs.Listings.{AreLabelsListed, AreLinksListed, IsListed};
-ghost use Rattle.ea_search.specs.Underway.{bound_of};
 
 use crate::layout::Layout;
 use crate::link_copy::copy_of;
@@ -35,9 +35,7 @@ fn copy_labels(places: &[u32], laid: &[u64], labels: &mut [u64])
 fn copy_label(places: &[u32], laid: &[u64], target: u32, labels: &mut [u64])
     requires can { CanCopyLabels places.now laid.now labels.old }
     requires target { IsNode (length places.now) target }
-    ensures copied { AreLabelsCopied (length places.now) (Some target) places.now laid.now labels.new }
-    ensures others { (node : ℕ) → node ≢ target
-        → bound_of labels.new node ≡ bound_of labels.old node }
+    ensures { CopiesLabel places.now laid.now target labels.old labels.new }
 {
     let slot = target as usize - 1;
     labels[slot] = laid[places[slot] as usize - 1];
@@ -46,10 +44,7 @@ fn copy_label(places: &[u32], laid: &[u64], target: u32, labels: &mut [u64])
 /// Copies the link of each node.
 fn copy_links(layout: &Layout, laid: &[Link], links: &mut [Link])
     requires { CanCopyLinks layout.now laid.now links.old }
-    ensures copied { AreLinksCopied (length laid.now) layout.now.places.items
-        layout.now.nodes.items laid.now links.new }
-    ensures all { (node : ℕ) → IsNode (length laid.now) node
-        → IsLinkCopied layout.now.places.items layout.now.nodes.items laid.now links.new node }
+    ensures { CopiesLinks layout.now laid.now links.new }
 {
     for slot in 0..links.len() {
         links[slot] = copy_of(&layout.nodes, laid[layout.places[slot] as usize - 1]);

@@ -1,5 +1,5 @@
 -- Links and a waiting list with a place for each node.
-use Rattle.std.specs.Prelude.{◌≡◌, ◌≢◌, ℕ, List, [], length, replicate}
+use Rattle.std.specs.Prelude.{◌≡◌, ◌≢◌, ℕ, Bool, IsTrue, List, [], length, replicate}
 use Rattle.ea_road.specs.Roads.{IsNode}
 use Rattle.ea_search.specs.declared.link.Link.{Link}
 use Rattle.ea_search.specs.Links.{link, no_link}
@@ -25,3 +25,9 @@ pub record HaveNoLinks (nodes : ℕ) (links : List Link) (waiting : Ring) : Type
   pub none : links ≡ replicate nodes no_link
   pub nobody : waiting.waiting ≡ []
   pub room : waiting.nodes ≡ nodes
+
+-- A step that may be given up: each node still has a link and room to wait and, unless it was given up, this was
+-- done.
+pub record TakesStep (nodes : ℕ) (goes_on : Bool) (links : List Link) (waiting : Ring) (what : Type 0) : Type 0 where
+  pub places : HavePlaces nodes links waiting
+  pub done : IsTrue goes_on → what

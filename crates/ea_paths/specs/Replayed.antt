@@ -44,21 +44,6 @@ AreAfter roads sources table notes links waiting ties = AreReplayed roads source
 abbrev pub StayAfter : List Link → List ℕ → List (ℕ × ℕ) → List Link → List ℕ → List (ℕ × ℕ) → Type 0
 StayAfter links waiting ties links' waiting' ties' = (roads : Roads) (sources : List Source) (table : List ℕ) (notes : List Note) → AreAfter roads sources table notes links waiting ties → AreAfter roads sources table notes links' waiting' ties'
 
--- Levels were passed on: links and waiting nodes keep their places and, unless the replay is given up, links that
--- are after some notes still are.
-pub record PassesLevels
-    (nodes : ℕ)
-    (goes_on : Bool)
-    (links : List Link)
-    (waiting : Ring)
-    (ties : List (ℕ × ℕ))
-    (links' : List Link)
-    (waiting' : Ring)
-    (ties' : List (ℕ × ℕ))
-    : Type 0 where
-  pub places : HavePlaces nodes links' waiting'
-  pub stay : IsTrue goes_on → StayAfter links waiting.waiting ties links' waiting'.waiting ties'
-
 -- Each tail with which a node is listed waits.
 abbrev pub AreWoken : List (ℕ × ℕ) → ℕ → List ℕ → Type 0
 AreWoken ties node waiting = (u : ℕ) → Contains ties (node, u) → Contains waiting u

@@ -1,5 +1,5 @@
 -- The arrays of a search by one thread, and what it has after a query.
-use Rattle.std.specs.Prelude.{◌≡◌, ℕ, Bool, true, false, IfSome, List, [], Contains, Option, Some, length, map, replicate}
+use Rattle.std.specs.Prelude.{◌≡◌, ℕ, Bool, true, false, IfSome, List, [], Contains, Option, None, Some, length, map, replicate}
 use Rattle.ea_hierarchy.specs.Hierarchies.{Hierarchy}
 use Rattle.ea_hierarchy.specs.Preparations.{IsPreparedFor}
 use Rattle.ea_road.specs.declared.TheConstants.{NONE}
@@ -78,6 +78,17 @@ pub record CanFind (roads : Roads) (classes : ℕ) (query : Asking) (search : Se
   pub problem : IsProblem roads classes query
   pub nodes : search.nodes ≡ roads.nodes
 
+-- A query, and arrays with room for walks for the nodes of its network.
+pub record CanFindWalks (roads : Roads) (classes : ℕ) (query : Asking) (search : Searched) : Type 0 where
+  pub problem : IsProblem roads classes query
+  pub nodes : search.nodes ≡ roads.nodes
+  pub walks : search.walks ≡ true
+
+-- A query for all nodes.
+pub record AsksAll (roads : Roads) (classes : ℕ) (query : Asking) : Type 0 where
+  pub problem : IsProblem roads classes query
+  pub all : query.target ≡ None
+
 -- The query of a pair, with its target.
 pub record AsksPair (roads : Roads) (classes : ℕ) (query : Asking) (target : ℕ) : Type 0 where
   pub problem : IsProblem roads classes query
@@ -95,11 +106,12 @@ pub record CanLead
   pub pair : AsksPair roads classes query target
   pub prepares : IsPreparedFor roads answers prepared
 
--- An answer without walks, which has these labels.
-pub record IsUnlinked (nodes : ℕ) (target : Option ℕ) (table : List ℕ) (answer : Answered) : Type 0 where
-  pub labels : answer.labels ≡ table
-  pub asked : (answer.nodes ≡ nodes) × (answer.target ≡ target)
-  pub none : answer.walks ≡ false
+-- A search whose answer has these labels, and no walks.
+pub record IsUnlinked (nodes : ℕ) (target : Option ℕ) (walks : Bool) (table : List ℕ) (search : Searched) : Type 0 where
+  pub labels : search.answer.labels ≡ table
+  pub asked : (search.answer.nodes ≡ nodes) × (search.answer.target ≡ target)
+  pub none : search.answer.walks ≡ false
+  pub room : (search.nodes ≡ nodes) × (search.walks ≡ walks)
 
 -- The answer of a query without walks, in arrays for as many nodes as before.
 pub record HasFoundArrivals

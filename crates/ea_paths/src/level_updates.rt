@@ -1,7 +1,7 @@
 //! Changes of levels during the replay, passed on along links.
 ghost use Rattle.ea_road.specs.Roads.{IsNode};
-ghost use Rattle.ea_paths.specs.Places.{HavePlaces};
-ghost use Rattle.ea_paths.specs.Replayed.{PassesLevels};
+ghost use Rattle.ea_paths.specs.Places.{HavePlaces, TakesStep};
+ghost use Rattle.ea_paths.specs.Replayed.{StayAfter};
 
 use crate::log_replay::{place_of, relevel};
 use crate::ties::Ties;
@@ -18,8 +18,9 @@ fn pass_to_head(
     ties: &mut Ties,
 ) -> bool
     requires { HavePlaces waiting.old.nodes links.old waiting.old }
-    ensures { PassesLevels waiting.old.nodes result links.old waiting.old ties.old.list.items
-        links.new waiting.new ties.new.list.items }
+    ensures { TakesStep waiting.old.nodes result links.new waiting.new
+        (StayAfter links.old waiting.old.waiting ties.old.list.items
+        links.new waiting.new.waiting ties.new.list.items) }
 {
     let Some(from) = place_of(node, links.len()) else {
         return false;
@@ -53,8 +54,9 @@ fn pass_to_heads(
 ) -> bool
     requires node { IsNode network.now.nodes node }
     requires places { HavePlaces waiting.old.nodes links.old waiting.old }
-    ensures { PassesLevels waiting.old.nodes result links.old waiting.old ties.old.list.items
-        links.new waiting.new ties.new.list.items }
+    ensures { TakesStep waiting.old.nodes result links.new waiting.new
+        (StayAfter links.old waiting.old.waiting ties.old.list.items
+        links.new waiting.new.waiting ties.new.list.items) }
 {
     let arcs = network.leaving(node).arcs;
     for arc in arcs {
@@ -74,8 +76,9 @@ fn pass_on_all(
     ties: &mut Ties,
 ) -> bool
     requires { HavePlaces network.now.nodes links.old waiting.old }
-    ensures { PassesLevels waiting.old.nodes result links.old waiting.old ties.old.list.items
-        links.new waiting.new ties.new.list.items }
+    ensures { TakesStep waiting.old.nodes result links.new waiting.new
+        (StayAfter links.old waiting.old.waiting ties.old.list.items
+        links.new waiting.new.waiting ties.new.list.items) }
 {
     'passing: for _ in 0..links.len() {
         let Some(node) = ties.changed.pop() else {
@@ -101,8 +104,9 @@ pub(crate) fn pass_on(
     ties: &mut Ties,
 ) -> bool
     requires { HavePlaces network.now.nodes links.old waiting.old }
-    ensures { PassesLevels waiting.old.nodes result links.old waiting.old ties.old.list.items
-        links.new waiting.new ties.new.list.items }
+    ensures { TakesStep waiting.old.nodes result links.new waiting.new
+        (StayAfter links.old waiting.old.waiting ties.old.list.items
+        links.new waiting.new.waiting ties.new.list.items) }
 {
     if ties.changed.is_empty() {
         return true;

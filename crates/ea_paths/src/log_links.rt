@@ -1,14 +1,14 @@
 //! Links from the log of a search: its notes are replayed, and the links repaired.
-ghost use Rattle.std.specs.Prelude.{◌≡◌, ◌<◌, length, IfSome, IsTrue, None};
-ghost use Rattle.ea_road.specs.Queries.{IsProblem};
+ghost use Rattle.std.specs.Prelude.{◌≡◌, ◌<◌, length, IfSome, IsTrue};
 ghost use Rattle.ea_search.specs.Links.{AreStarts, link};
 ghost use Rattle.ea_search.specs.Notes.{notes_in};
 ghost use Rattle.ea_search.specs.Scans.{IsPlaced};
 ghost use Rattle.ea_paths.specs.Linkable.{CanLink, HaveLinks, LinksSources};
 ghost use Rattle.ea_paths.specs.Logs.{AreNotesOf, IsLogOf};
 ghost use Rattle.ea_paths.specs.Mended.{AreReady};
-ghost use Rattle.ea_paths.specs.Places.{HaveNoLinks, HavePlaces};
+ghost use Rattle.ea_paths.specs.Places.{HaveNoLinks, TakesStep};
 ghost use Rattle.ea_paths.specs.Replayed.{AreSettled};
+ghost use Rattle.ea_paths.specs.Searches.{AsksAll};
 
 use crate::link_search::{link_all, sow};
 use crate::log_replay::{number_of, replay};
@@ -89,9 +89,9 @@ fn link_by_notes<T: TravelTimes>(
     requires none { HaveNoLinks network.now.nodes links.old waiting.old }
     requires notes { AreNotesOf network.now (T.answers times.now) noted.now.labels.items
         (notes_in noted.now.notes) }
-    ensures places { HavePlaces network.now.nodes links.new waiting.new }
-    ensures linked { IsTrue result → HaveLinks network.now (T.answers times.now) sources.now
-        noted.now.labels.items links.new waiting.new }
+    ensures { TakesStep network.now.nodes result links.new waiting.new
+        (HaveLinks network.now (T.answers times.now) sources.now
+        noted.now.labels.items links.new waiting.new) }
 {
     network.keeps_limits();
     let table: &[u64] = &noted.labels;
@@ -117,11 +117,10 @@ pub(crate) fn link_noted<T: TravelTimes>(
     waiting: &mut Waiting,
     ties: &mut Ties,
 )
-    requires problem { IsProblem network.now (T.classes times.now) query.now }
-    requires all { query.now.target ≡ None }
+    requires all { AsksAll network.now (T.classes times.now) query.now }
     requires none { HaveNoLinks network.now.nodes links.old waiting.old }
     requires log { IsLogOf network.now (T.answers times.now) query.now noted.now }
-    ensures linked { HaveLinks network.now (T.answers times.now) query.now.sources
+    ensures { HaveLinks network.now (T.answers times.now) query.now.sources
         noted.now.labels.items links.new waiting.new }
 {
     let sources = query.sources();

@@ -4,7 +4,7 @@ ghost use Rattle.ea_road.specs.declared.source.Source.{Source};
 ghost use Rattle.ea_road.specs.Roads.{Roads};
 ghost use Rattle.ea_search.specs.Links.{link};
 ghost use Rattle.ea_search.specs.Notes.{by_none, notes_in};
-ghost use Rattle.ea_paths.specs.Places.{HasPlace, HavePlaces, IsLaterNode};
+ghost use Rattle.ea_paths.specs.Places.{HasPlace, HavePlaces, IsLaterNode, TakesStep};
 ghost use Rattle.ea_paths.specs.Replayed.{AreAfter, AreReplayed, HaveOneArc, IsFollowed, IsReachedAgain, KeepsTies};
 ghost use Rattle.ea_search.specs.Scans.{IsPlaced};
 
@@ -114,10 +114,10 @@ fn tie(
 ) -> bool
     requires place { HasPlace node links.old waiting.old }
     requires level { 0 < new.level }
-    ensures places { HavePlaces waiting.old.nodes links.new waiting.new }
-    ensures reached { IsTrue result → IsReachedAgain network.now node new
+    ensures { TakesStep waiting.old.nodes result links.new waiting.new
+        (IsReachedAgain network.now node new
         links.old waiting.old.waiting ties.old.list.items
-        links.new waiting.new.waiting ties.new.list.items }
+        links.new waiting.new.waiting ties.new.list.items) }
 {
     let old = links[node as usize - 1];
     if old.level == 0 {
@@ -155,10 +155,10 @@ fn follow_note(
     ties: &mut Ties,
 ) -> bool
     requires { HavePlaces network.now.nodes links.old waiting.old }
-    ensures places { HavePlaces network.now.nodes links.new waiting.new }
-    ensures followed { IsTrue result → IsFollowed network.now note
+    ensures { TakesStep network.now.nodes result links.new waiting.new
+        (IsFollowed network.now note
         links.old waiting.old.waiting ties.old.list.items
-        links.new waiting.new.waiting ties.new.list.items }
+        links.new waiting.new.waiting ties.new.list.items) }
 {
     let Some(from) = place_of(note.from, links.len()) else {
         return false;
@@ -192,11 +192,11 @@ pub(crate) fn replay(
     ties: &mut Ties,
 ) -> bool
     requires { HavePlaces network.now.nodes links.old waiting.old }
-    ensures places { HavePlaces network.now.nodes links.new waiting.new }
-    ensures replayed { IsTrue result → (sources : List Source) (table : List ℕ)
+    ensures { TakesStep network.now.nodes result links.new waiting.new
+        ((sources : List Source) (table : List ℕ)
         → AreReplayed network.now sources table by_none by_none links.old waiting.old.waiting
         → AreAfter network.now sources table (notes_in notes.now)
-        links.new waiting.new.waiting ties.new.list.items }
+        links.new waiting.new.waiting ties.new.list.items) }
 {
     ties.clear(links.len());
     for word in notes {

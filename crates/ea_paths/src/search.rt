@@ -1,7 +1,7 @@
 //! The arrays of searches by one thread, reused from query to query.
 ghost use Rattle.std.specs.Prelude.{◌≡◌, true, false, None, map, if◌then◌else◌, IfOk};
 ghost use Rattle.ea_road.specs.Queries.{IsProblem};
-ghost use Rattle.ea_paths.specs.Searches.{AreReset, CanBegin, CanFind, HasEnded, HasFoundArrivals, HasFoundWalks};
+ghost use Rattle.ea_paths.specs.Searches.{AreReset, CanBegin, CanFind, CanFindWalks, HasEnded, HasFoundArrivals, HasFoundWalks};
 
 mod led;
 
@@ -138,8 +138,7 @@ impl Search {
     /// Arrays for searches in networks of this number of nodes, and for their walks. Fails only if memory is
     /// refused.
     pub fn reserve(alloc: Global, nodes: u32) -> Result<Search, AllocError>
-        ensures nodes { IfOk result (λ search. search.nodes ≡ nodes) }
-        ensures walks { IfOk result (λ search. search.walks ≡ true) }
+        ensures { IfOk result (λ search. (search.nodes ≡ nodes) × (search.walks ≡ true)) }
     {
         Search::with_room(alloc, nodes, true)
     }
@@ -147,8 +146,7 @@ impl Search {
     /// Arrays for searches in networks of this number of nodes, without walks. Fails only if memory is
     /// refused.
     pub fn reserve_without_walks(alloc: Global, nodes: u32) -> Result<Search, AllocError>
-        ensures nodes { IfOk result (λ search. search.nodes ≡ nodes) }
-        ensures walks { IfOk result (λ search. search.walks ≡ false) }
+        ensures { IfOk result (λ search. (search.nodes ≡ nodes) × (search.walks ≡ false)) }
     {
         Search::with_room(alloc, nodes, false)
     }
@@ -238,8 +236,7 @@ impl Search {
 
     /// Answers a query with its canonical walks. Else like `find_arrivals`.
     pub fn find_walks<T: TravelTimes>(self, network: &Network, times: &T, query: &Query) -> Search
-        requires can { CanFind network.now (T.classes times.now) query.now self }
-        requires walks { self.walks ≡ true }
+        requires { CanFindWalks network.now (T.classes times.now) query.now self }
         ensures { HasFoundWalks network.now (T.answers times.now) query.now self.nodes result }
     {
         if query.target().is_none() {
@@ -251,8 +248,7 @@ impl Search {
 
     /// The walks to all nodes, from the log of the search.
     fn find_all_walks<T: TravelTimes>(self, network: &Network, times: &T, query: &Query) -> Search
-        requires can { CanFind network.now (T.classes times.now) query.now self }
-        requires walks { self.walks ≡ true }
+        requires can { CanFindWalks network.now (T.classes times.now) query.now self }
         requires all { query.now.target ≡ None }
         ensures { HasFoundWalks network.now (T.answers times.now) query.now self.nodes result }
     {
@@ -295,8 +291,7 @@ impl Search {
 
     /// The walk to the target of a pair.
     fn find_pair_walk<T: TravelTimes>(self, network: &Network, times: &T, query: &Query) -> Search
-        requires can { CanFind network.now (T.classes times.now) query.now self }
-        requires walks { self.walks ≡ true }
+        requires { CanFindWalks network.now (T.classes times.now) query.now self }
         ensures { HasFoundWalks network.now (T.answers times.now) query.now self.nodes result }
     {
         let Arrays {

@@ -19,8 +19,7 @@ use std::alloc::Global;
 /// The search with the labels of its arrays as an answer without walks.
 fn unlinked(arrays: Arrays, nodes: u32, target: Option<u32>, walks: bool) -> Search
     requires { AreLabelled nodes walks arrays }
-    ensures answer { IsUnlinked nodes target arrays.table.items result.answer }
-    ensures room { (result.nodes ≡ nodes) × (result.walks ≡ walks) }
+    ensures { IsUnlinked nodes target walks arrays.table.items result }
 {
     let Arrays {
         table,

@@ -11,12 +11,12 @@ use Rattle.ea_layout.proofs.walk_copy.copy_link.Goals as goal
 
 pub returns : goal.returns
 returns c =
-    let reverse = c.requires.reverse in
+    let reverse = c.requires.can.reverse in
     let nodes = c.args.layout.now.nodes.items in
     let at = subst (λ n. IsNode n c.args.at) (sym reverse.back_length) c.requires.at in
     let read : c.index-node.result.now ≡ number_of nodes c.args.at = read_number nodes c.args.at c.index-node.result.now at c.index-node.ensures in
     let back = reverse.back_node c.args.at c.requires.at in
-    let is = subst (λ n. IsNode n (number_of nodes c.args.at)) (sym c.requires.length) back in
+    let is = subst (λ n. IsNode n (number_of nodes c.args.at)) (sym c.requires.can.places) back in
     let none : Link = record { level = 0; arc = 0; from = 0 } in
     let copy : IsCopyOf nodes (link c.args.laid.now c.args.at) c.copy_of.result = rw (c.deref.ensures.value, read_link c.args.laid.now c.args.at none c.requires.at) at c.copy_of.ensures in
     record {

@@ -11,12 +11,13 @@ use Rattle.ea_layout.proofs.walk_copy.copy_walk.Goals as goal
 pub loop-at-init : goal.loop-at-init
 loop-at-init c =
     let can = c.requires.can in
-    let reverse = can.reverse in
+    let target = c.requires.target in
+    let reverse = can.can.reverse in
     let places = c.args.layout.now.places.items in
-    let is = subst (λ n. IsNode n c.args.target) (sym reverse.there_length) c.requires.target in
+    let is = subst (λ n. IsNode n c.args.target) (sym reverse.there_length) target.is_node in
     let read : c.index-at.result.now ≡ number_of places c.args.target = read_number places c.args.target c.index-at.result.now is c.index-at.ensures in
     record {
-      copied = rw read (nothing_copied (length c.args.laid.now) places c.args.layout.now.nodes.items reverse c.args.laid.now refl can.followable c.args.target c.requires.target c.args.links.now can.places c.requires.none c.requires.level);
+      copied = rw read (nothing_copied (length c.args.laid.now) places c.args.layout.now.nodes.items reverse c.args.laid.now refl can.followable c.args.target c.requires.target.is_node c.args.links.now can.can.places c.requires.none target.level);
       listed = λ node. inl (c.requires.none node);
       kept = λ node there. there;
     }
@@ -40,7 +41,7 @@ loop-at-preserved c =
     let nodes = c.args.layout.now.nodes.items in
     let step = c.copy_link.ensures in
     record {
-      copied = rw read (one_further (length c.args.laid.now) places nodes c.requires.can.reverse c.args.laid.now refl c.requires.can.followable c.args.target c.requires.target c.loop-at.links c.copy_link.new.links c.loop-at.at inv.copied step.places step.copied step.others some);
+      copied = rw read (one_further (length c.args.laid.now) places nodes c.requires.can.can.reverse c.args.laid.now refl c.requires.can.followable c.args.target c.requires.target.is_node c.loop-at.links c.copy_link.new.links c.loop-at.at inv.copied step.places step.copied step.others some);
       listed = listed_after c.loop-at.links c.copy_link.new.links (number_of nodes c.loop-at.at) (IsListed c.loop-at.listed) (IsListed c.copy_link.new.listed) inv.listed step.others step.there step.kept;
       kept = λ node there. step.kept node (inv.kept node there);
     }
@@ -55,7 +56,7 @@ returns c =
     let places = c.args.layout.now.places.items in
     let nodes = c.args.layout.now.nodes.items in
     let step = c.copy_link-2.ensures in
-    let all = all_copied (length c.args.laid.now) places nodes c.requires.can.reverse c.args.laid.now refl c.requires.can.followable c.args.target c.requires.target c.loop-at.links c.copy_link-2.new.links c.loop-at.at inv.copied step.places step.copied step.others level in
+    let all = all_copied (length c.args.laid.now) places nodes c.requires.can.can.reverse c.args.laid.now refl c.requires.can.followable c.args.target c.requires.target.is_node c.loop-at.links c.copy_link-2.new.links c.loop-at.at inv.copied step.places step.copied step.others level in
     record {
       copied = all.0;
       of_target = all.1;

@@ -10,20 +10,20 @@ use Rattle.ea_layout.proofs.written.copy_links.Goals as goal
 -- the number that was read is a node's
 pub overflow_sub-index : goal.overflow_sub-index
 overflow_sub-index c =
-    let reverse = c.requires.reverse in
+    let reverse = c.requires.can.reverse in
     let long = reverse.there_length in
     let low = c.loop-slot-test.true in
-    let length = c.requires.places in
+    let length = c.requires.can.places in
     let is = node_at _ c.args.layout.now.places.items c.loop-slot.slot reverse.there_node (omega (arith, low, length)) in
     let read = get_or_read c.args.layout.now.places.items c.loop-slot.slot c.index.result.now (omega (arith, low, length, long)) c.index.ensures 0 in
     rw read is.from_one
 
 pub bounds-laid-index : goal.bounds-laid-index
 bounds-laid-index c =
-    let reverse = c.requires.reverse in
+    let reverse = c.requires.can.reverse in
     let long = reverse.there_length in
     let low = c.loop-slot-test.true in
-    let length = c.requires.places in
+    let length = c.requires.can.places in
     let is = node_at _ c.args.layout.now.places.items c.loop-slot.slot reverse.there_node (omega (arith, low, length)) in
     let read = get_or_read c.args.layout.now.places.items c.loop-slot.slot c.index.result.now (omega (arith, low, length, long)) c.index.ensures 0 in
     let from = is.from_one in
@@ -32,10 +32,10 @@ bounds-laid-index c =
 
 pub loop-slot-preserved : goal.loop-slot-preserved
 loop-slot-preserved c =
-    let reverse = c.requires.reverse in
+    let reverse = c.requires.can.reverse in
     let long = reverse.there_length in
     let low = c.loop-slot-test.true in
-    let whole = c.requires.places in
+    let whole = c.requires.can.places in
     let places = c.args.layout.now.places.items in
     let is = node_at _ places c.loop-slot.slot reverse.there_node (omega (arith, low, whole)) in
     let from = is.from_one in
@@ -61,9 +61,9 @@ loop-slot-preserved c =
 
 pub returns : goal.returns
 returns c =
-    let reverse = c.requires.reverse in
+    let reverse = c.requires.can.reverse in
     let inv = c.loop-slot.invariant in
     let done = c.loop-slot-test.false in
-    let whole = c.requires.places in
+    let whole = c.requires.can.places in
     let all = link_by_place _ c.args.layout.now.places.items c.args.layout.now.nodes.items reverse c.args.laid.now c.loop-slot.links (λ at low. inv.each at (omega (arith, low, done, whole))) in
     record { copied = links_copied _ c.args.layout.now.places.items c.args.layout.now.nodes.items reverse c.args.laid.now c.loop-slot.links inv.many all refl c.requires.followable; all = all }

@@ -36,7 +36,7 @@ relevel-requires-clause-same c =
 pub returns : goal.returns
 returns c = record {
   places = c.relevel.ensures.kept.places;
-  stay = λ yes roads sources table notes before.
+  done = λ yes roads sources table notes before.
       let links = c.args.links.now in
       let tail : (0 < c.args.node) × (c.in-Some.from ≡ c.args.node - 1) × (c.in-Some.from < length links) = c.in-Some.ensures in
       let old = read links c.args.head c.in-Some-place_of.at 0 (length links) c.in-Some-place_of.ensures refl in

@@ -7,5 +7,5 @@ loop-arc-preserved c =
     let passes = c.pass_to_head.ensures in
     record {
       places = record { places = passes.places.places ∙ before.places.room; room = passes.places.room ∙ before.places.room };
-      stay = λ roads sources table notes begun. passes.stay c.if-not-pass_to_head.false roads sources table notes (before.stay roads sources table notes begun);
+      stay = λ roads sources table notes begun. passes.done c.if-not-pass_to_head.false roads sources table notes (before.stay roads sources table notes begun);
     }

@@ -4,6 +4,7 @@ use Rattle.std.proofs.lemmas.List.{get_or_default}
 use Rattle.ea_road.specs.declared.source.Source.{Source}
 use Rattle.ea_search.specs.Links.{link}
 use Rattle.ea_search.specs.Worklist.{Ring}
+use Rattle.ea_paths.specs.Offers.{IsSpread}
 use Rattle.ea_paths.proofs.Offerings.{spent_each}
 use Rattle.ea_paths.proofs.Linked.{are_links, Settled-linking}
 use Rattle.ea_paths.proofs.Linkings.{Linking-none, Linking-spread, Linking-time, Linking-unlabelled, AreSown-more, AreSown-lower, Offers-lower, sow_step}
@@ -76,11 +77,13 @@ loop-node-preserved g c =
     let before = rw c.in-Some.ensures.taken at c.loop-node.invariant.linking in
     let few = c.keeps_limits.ensures.nodes_limit in
     let offers = c.spread.ensures.offers in
+    let network = c.args.network.now in
     let answers = g.T.TravelTimes.answers c.args.times.now in
-    let spent = spent_each c.args.network.now answers c.args.table.now c.spread.new.links c.in-Some.node ((link c.loop-node.links c.in-Some.node).level + 1) c.spread.ensures.passed in
+    let level = (link c.loop-node.links c.in-Some.node).level + 1 in
+    let spent = spent_each network answers c.args.table.now c.spread.new.links c.in-Some.node level c.spread.ensures.passed in
     record {
       linking = Linking-spread _ _ _ _ c.in-Some.node _ _ _ _ (omega arith) before offers spent;
-      sown = AreSown-lower _ _ _ _ _ c.loop-node.invariant.sown (Offers-lower _ _ _ _ _ _ offers);
+      sown = AreSown-lower _ _ _ _ _ c.loop-node.invariant.sown (Offers-lower _ (IsSpread network answers c.args.table.now c.in-Some.node level) _ _ _ _ offers);
       room = c.spread.ensures.room ∙ c.in-Some.ensures.nodes ∙ c.loop-node.invariant.room;
     }
 

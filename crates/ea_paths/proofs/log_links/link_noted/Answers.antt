@@ -8,7 +8,7 @@ use Rattle.ea_paths.proofs.log_links.link_noted.Goals as goal
 
 pub link_by_notes-requires-clause-can : goal.link_by_notes-requires-clause-can
 link_by_notes-requires-clause-can g c =
-    let problem = c.requires.problem in
+    let problem = c.requires.all.problem in
     record {
       classed = problem.classed;
       starts = rw c.sources-sources.ensures.sources (λ source among. (problem.sources source among, problem.departures source among));
@@ -34,14 +34,14 @@ link_by_notes-requires-clause-notes g c = record {
         | inr (inl waits) ↦ absurd (omega (arith, waits.1))
         | inr (inr beyond) ↦ (
             let time : bound_of table node ≤ HORIZON = (before.reached node has).within in
-            let none : limit c.args.query.now.target (bound_of table) ≡ NONE = ap (λ target. limit target (bound_of table)) c.requires.all in
+            let none : limit c.args.query.now.target (bound_of table) ≡ NONE = ap (λ target. limit target (bound_of table)) c.requires.all.all in
             absurd (omega (arith, beyond)))
       ];
 }
 
 pub link_all-requires-clause-can : goal.link_all-requires-clause-can
 link_all-requires-clause-can g c =
-    let problem = c.requires.problem in
+    let problem = c.requires.all.problem in
     record {
       classed = problem.classed;
       starts = rw c.sources-sources.ensures.sources (λ source among. (problem.sources source among, problem.departures source among));

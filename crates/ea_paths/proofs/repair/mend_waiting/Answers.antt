@@ -1,5 +1,8 @@
-use Rattle.std.proofs.Common.{[], inl, inr, refl, ◌∙◌, ap, arith}
+use Rattle.std.proofs.Common.{ℕ, ◌+◌, [], inl, inr, refl, ◌∙◌, ap, arith}
+use Rattle.ea_search.specs.declared.link.Link.{Link}
+use Rattle.ea_search.specs.Links.{link}
 use Rattle.ea_search.specs.Worklist.{Ring}
+use Rattle.ea_paths.specs.Offers.{IsSpread}
 use Rattle.ea_paths.proofs.Mendings.{KeepsMended-more, Ready-mended, nobody_in}
 use Rattle.ea_paths.proofs.repair.mend_waiting.Goals as goal
 
@@ -27,9 +30,11 @@ pub mending-preserved : goal.mending-preserved
 mending-preserved g c =
     let before = c.mending.invariant in
     let mends = c.mend.ensures in
+    let answers = g.T.TravelTimes.answers c.args.times.now in
+    let offer : ℕ → Link → Type 0 = IsSpread c.args.network.now answers c.args.table.now c.in-Some.node ((link c.mending.links c.in-Some.node).level + 1) in
     record {
       kept = KeepsMended-more _ _ _ c.in-Some.node _ _ _ _ _ _ _ _ c.in-Some.ensures.taken c.in-Some.ensures.nodes before.kept mends;
-      ready = λ first. Ready-mended _ _ c.in-Some.node _ _ _ _ (rw c.in-Some.ensures.taken at before.ready first) mends.offers (mends.ready c.if-not-mend.false);
+      ready = λ first. Ready-mended _ offer c.in-Some.node _ _ _ _ (rw c.in-Some.ensures.taken at before.ready first) mends.offers (mends.ready c.if-not-mend.false);
     }
 
 pub returns-then-not-mend-clause-kept : goal.returns-then-not-mend-clause-kept

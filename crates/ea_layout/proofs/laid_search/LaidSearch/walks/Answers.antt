@@ -6,13 +6,14 @@ use Rattle.ea_layout.proofs.Copying.{copied_answer, copied_stored, laid_level}
 use Rattle.ea_layout.proofs.Renaming.{problem_laid}
 use Rattle.ea_layout.proofs.laid_search.LaidSearch.walks.Goals as goal
 
-pub find_walks-search-requires-clause-can : goal.find_walks-search-requires-clause-can
-find_walks-search-requires-clause-can g c =
+pub find_walks-search-requires : goal.find_walks-search-requires
+find_walks-search-requires g c =
     let it = c.requires in
     let reverse = it.can.laid_out.reverse in
     record {
       problem = subst (λ (r : Roads). IsProblem r (g.T.TravelTimes.classes c.args.times.now) c.args.laid.now) (sym it.can.laid_out.network) (problem_laid c.args.network.now _ c.args.query.now c.args.laid.now c.args.layout.now.places.items c.args.layout.now.nodes.items c.keeps_limits.ensures reverse it.asks it.can.problem);
       nodes = search rules;
+      walks = search rules;
     }
 
 pub write_labels-requires : goal.write_labels-requires
@@ -40,8 +41,7 @@ write_links-requires g c =
     record {
       can = search rules;
       copies = record {
-        places = search rules;
-        reverse = search rules;
+        can = record { places = search rules; reverse = search rules };
         followable = rw (c.links.ensures.links, c.answer-2.ensures) (stored.followable has.walks);
       };
       is_node = search rules;

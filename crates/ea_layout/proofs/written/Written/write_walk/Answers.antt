@@ -6,13 +6,21 @@ use Rattle.ea_layout.specs.Copied.{IsLinkCopied}
 use Rattle.ea_layout.proofs.written.Written.write_walk.Goals as goal
 
 pub copy_walk-requires-clause-target : goal.copy_walk-requires-clause-target
-copy_walk-requires-clause-target c = c.requires.is_node c.args.target refl
+copy_walk-requires-clause-target c =
+    let it = c.requires in
+    let labels = c.args.self.now.labels.items in
+    let node = it.is_node c.args.target refl in
+    let read : c.index.result.now ≡ label_of labels c.args.target = get_or_read labels (c.args.target - 1) c.index.result.now (omega (arith, node.from_one, node.to_last, it.can.places)) c.index.ensures 0 in
+    record {
+      is_node = node;
+      level = it.level c.args.target refl (λ none. c.if-index.true (read ∙ none));
+    }
 
 pub returns-then-index : goal.returns-then-index
 returns-then-index c =
     let it = c.requires in
     let links = c.args.self.now.links in
-    let filled : length c.copy_walk.new.links ≡ links.len = omega (arith, c.copy_walk.ensures.copied.places, it.copies.places, links.ok.0) in
+    let filled : length c.copy_walk.new.links ≡ links.len = omega (arith, c.copy_walk.ensures.copied.places, it.copies.can.places, links.ok.0) in
     let same = with_items_is links c.copy_walk.new.links filled in
     let P : ℕ → Type 0 = λ n. IsLinkCopied c.args.layout.now.places.items c.args.layout.now.nodes.items c.args.laid.now c.copy_walk.new.links n in
     record {
@@ -36,7 +44,7 @@ returns-else-index c =
       can = it.can;
       labels = refl;
       copied = record {
-        places = it.copies.places;
+        places = it.copies.can.places;
         each = λ node is. inl (it.cleared c.args.target refl node);
         before = λ node is high level.
             let none = ap (λ (l : Link). l.level) (it.cleared c.args.target refl node) in

@@ -19,21 +19,21 @@ find-lists-requires-clause-begins g c =
 pub new-requires : goal.new-requires
 new-requires g c =
     let finished = c.find-lists.ensures.ended.finished in
-    let links = c.link_noted.ensures.linked.are_links in
-    let many = room_again _ _ _ true _ c.into_parts-waiting.ensures.links (sym finished.room) (c.find-lists.ensures.walks ∙ ap (λ (w : Worklist). w.walks) c.into_arrays-table.ensures.todo ∙ c.requires.walks) in
+    let links = c.link_noted.ensures.are_links in
+    let many = room_again _ _ _ true _ c.into_parts-waiting.ensures.links (sym finished.room) (c.find-lists.ensures.walks ∙ ap (λ (w : Worklist). w.walks) c.into_arrays-table.ensures.todo ∙ c.requires.can.walks) in
     let filled : length c.link_noted.new.links ≡ c.into_parts-waiting.result.1.len = omega (arith, many, links.places, c.into_parts-waiting.result.1.ok.0) in
     rw (with_items_is c.into_parts-waiting.result.1 c.link_noted.new.links filled, c.nodes.ensures.nodes, c.target.ensures.target) (stored c.args.network.now _ _ c.args.query.now c.nodes.ensures.network c.requires.can.problem (g.met.T.TravelTimes.fifo c.args.times.now) c.find-lists.new.table.labels.items finished.places finished.fixed c.link_noted.new.links links)
 
 pub invariant_of-result : goal.invariant_of-result
 invariant_of-result g c =
     let finished = c.find-lists.ensures.ended.finished in
-    let links = c.link_noted.ensures.linked.are_links in
-    let many = room_again _ _ _ true _ c.into_parts-waiting.ensures.links (sym finished.room) (c.find-lists.ensures.walks ∙ ap (λ (w : Worklist). w.walks) c.into_arrays-table.ensures.todo ∙ c.requires.walks) in
+    let links = c.link_noted.ensures.are_links in
+    let many = room_again _ _ _ true _ c.into_parts-waiting.ensures.links (sym finished.room) (c.find-lists.ensures.walks ∙ ap (λ (w : Worklist). w.walks) c.into_arrays-table.ensures.todo ∙ c.requires.can.walks) in
     let filled : length c.link_noted.new.links ≡ c.into_parts-waiting.result.1.len = omega (arith, many, links.places, c.into_parts-waiting.result.1.ok.0) in
-    let nodes = c.link_noted.ensures.linked.room in
+    let nodes = c.link_noted.ensures.room in
     rw (c.new.ensures, with_items_is c.into_parts-waiting.result.1 c.link_noted.new.links filled) (record {
       can = record {
-        nobody = c.link_noted.ensures.linked.nobody;
+        nobody = c.link_noted.ensures.nobody;
         labels = finished.places ∙ sym nodes;
         links = links.places ∙ sym nodes;
         many = c.find-lists.ensures.ended.emptied.0;
@@ -47,7 +47,7 @@ invariant_of-result g c =
 pub returns : goal.returns
 returns g c =
     let finished = c.find-lists.ensures.ended.finished in
-    let links = c.link_noted.ensures.linked.are_links in
-    let many = room_again _ _ _ true _ c.into_parts-waiting.ensures.links (sym finished.room) (c.find-lists.ensures.walks ∙ ap (λ (w : Worklist). w.walks) c.into_arrays-table.ensures.todo ∙ c.requires.walks) in
+    let links = c.link_noted.ensures.are_links in
+    let many = room_again _ _ _ true _ c.into_parts-waiting.ensures.links (sym finished.room) (c.find-lists.ensures.walks ∙ ap (λ (w : Worklist). w.walks) c.into_arrays-table.ensures.todo ∙ c.requires.can.walks) in
     let filled : length c.link_noted.new.links ≡ c.into_parts-waiting.result.1.len = omega (arith, many, links.places, c.into_parts-waiting.result.1.ok.0) in
-    rw (c.new.ensures, with_items_is c.into_parts-waiting.result.1 c.link_noted.new.links filled, c.nodes.ensures.nodes, c.target.ensures.target) (record { answer = (is_answer c.args.network.now _ _ c.args.query.now c.nodes.ensures.network c.requires.can.problem (g.met.T.TravelTimes.fifo c.args.times.now) c.find-lists.new.table.labels.items finished.places finished.fixed c.link_noted.new.links links); room = (c.link_noted.ensures.linked.room ∙ sym c.requires.can.nodes, refl) })
+    rw (c.new.ensures, with_items_is c.into_parts-waiting.result.1 c.link_noted.new.links filled, c.nodes.ensures.nodes, c.target.ensures.target) (record { answer = (is_answer c.args.network.now _ _ c.args.query.now c.nodes.ensures.network c.requires.can.problem (g.met.T.TravelTimes.fifo c.args.times.now) c.find-lists.new.table.labels.items finished.places finished.fixed c.link_noted.new.links links); room = (c.link_noted.ensures.room ∙ sym c.requires.can.nodes, refl) })

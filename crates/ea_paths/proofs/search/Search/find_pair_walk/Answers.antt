@@ -15,15 +15,15 @@ pub find-lists-requires-clause-begins : goal.find-lists-requires-clause-begins
 find-lists-requires-clause-begins g c =
     let arrays = c.into_arrays-table.ensures in
     record {
-      none = rw (arrays.labels, c.requires.can.nodes) refl;
+      none = rw (arrays.labels, c.requires.nodes) refl;
       unmet = λ v u k had. had;
       emptied = arrays.lists;
-      room = ap (λ (w : Worklist). w.nodes) arrays.todo ∙ c.requires.can.nodes;
+      room = ap (λ (w : Worklist). w.nodes) arrays.todo ∙ c.requires.nodes;
     }
 
 pub link_all-requires-clause-can : goal.link_all-requires-clause-can
 link_all-requires-clause-can g c =
-    let problem = c.requires.can.problem in
+    let problem = c.requires.problem in
     record {
       classed = problem.classed;
       starts = rw c.sources-sources.ensures.sources (λ source among. (problem.sources source among, problem.departures source among));
@@ -36,7 +36,7 @@ new-answer-requires g c =
     let links = rw (c.sources-sources.ensures.sources, c.deref.ensures.value) at c.link_all.ensures.linked.are_links in
     let many = room_again _ _ _ true _ c.into_parts-waiting.ensures.links (sym finished.room) (c.find-lists.ensures.walks ∙ ap (λ (w : Worklist). w.walks) c.into_arrays-table.ensures.todo ∙ c.requires.walks) in
     let filled : length c.link_all.new.links ≡ c.into_parts-waiting.result.1.len = omega (arith, many, links.places, c.into_parts-waiting.result.1.ok.0) in
-    rw (with_items_is c.into_parts-waiting.result.1 c.link_all.new.links filled, c.nodes.ensures.nodes, c.target.ensures.target) (stored c.args.network.now _ _ c.args.query.now c.nodes.ensures.network c.requires.can.problem (g.met.T.TravelTimes.fifo c.args.times.now) c.find-lists.new.table.labels.items finished.places finished.fixed c.link_all.new.links links)
+    rw (with_items_is c.into_parts-waiting.result.1 c.link_all.new.links filled, c.nodes.ensures.nodes, c.target.ensures.target) (stored c.args.network.now _ _ c.args.query.now c.nodes.ensures.network c.requires.problem (g.met.T.TravelTimes.fifo c.args.times.now) c.find-lists.new.table.labels.items finished.places finished.fixed c.link_all.new.links links)
 
 pub invariant_of-result : goal.invariant_of-result
 invariant_of-result g c =
@@ -55,7 +55,7 @@ invariant_of-result g c =
         reached = c.find-lists.ensures.ended.listed;
         linked = linked;
       };
-      guide_fits = fits_too _ _ _ (c.requires.can.nodes ∙ sym nodes) c.into_arrays-table.ensures.guide;
+      guide_fits = fits_too _ _ _ (c.requires.nodes ∙ sym nodes) c.into_arrays-table.ensures.guide;
     })
   where
     -- a node without a label has no link
@@ -71,4 +71,4 @@ returns g c =
     let links = rw (c.sources-sources.ensures.sources, c.deref.ensures.value) at c.link_all.ensures.linked.are_links in
     let many = room_again _ _ _ true _ c.into_parts-waiting.ensures.links (sym finished.room) (c.find-lists.ensures.walks ∙ ap (λ (w : Worklist). w.walks) c.into_arrays-table.ensures.todo ∙ c.requires.walks) in
     let filled : length c.link_all.new.links ≡ c.into_parts-waiting.result.1.len = omega (arith, many, links.places, c.into_parts-waiting.result.1.ok.0) in
-    rw (c.new-answer.ensures, with_items_is c.into_parts-waiting.result.1 c.link_all.new.links filled, c.nodes.ensures.nodes, c.target.ensures.target) (record { answer = (is_answer c.args.network.now _ _ c.args.query.now c.nodes.ensures.network c.requires.can.problem (g.met.T.TravelTimes.fifo c.args.times.now) c.find-lists.new.table.labels.items finished.places finished.fixed c.link_all.new.links links); room = (c.link_all.ensures.linked.room ∙ sym c.requires.can.nodes, refl) })
+    rw (c.new-answer.ensures, with_items_is c.into_parts-waiting.result.1 c.link_all.new.links filled, c.nodes.ensures.nodes, c.target.ensures.target) (record { answer = (is_answer c.args.network.now _ _ c.args.query.now c.nodes.ensures.network c.requires.problem (g.met.T.TravelTimes.fifo c.args.times.now) c.find-lists.new.table.labels.items finished.places finished.fixed c.link_all.new.links links); room = (c.link_all.ensures.linked.room ∙ sym c.requires.nodes, refl) })

@@ -43,8 +43,7 @@ unlinked-requires-else-walks g c =
 
 pub returns-else-walks : goal.returns-else-walks
 returns-else-walks g c =
-    let answer = c.unlinked-else-walks.ensures.answer in
-    let room = c.unlinked-else-walks.ensures.room in
+    let answer = c.unlinked-else-walks.ensures in
     let pair = c.requires.can.pair in
     let network = c.nodes-nodes.ensures.network in
     let led = c.lead_arrays-arrays.ensures.led c.if-not-is_found.false in
@@ -57,5 +56,5 @@ returns-else-walks g c =
         least = rw answer.labels has.least;
       };
       answer = λ yes. absurd (false≢true (sym c.if-walks.false ∙ walks ∙ yes));
-      room = (room.0 ∙ c.nodes-nodes.ensures.nodes ∙ sym c.requires.nodes, room.1 ∙ walks);
+      room = (answer.room.0 ∙ c.nodes-nodes.ensures.nodes ∙ sym c.requires.nodes, answer.room.1 ∙ walks);
     }
