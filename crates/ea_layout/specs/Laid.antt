@@ -9,7 +9,7 @@ use Rattle.ea_layout.specs.declared.layout.Layout.{Layout}
 use Rattle.ea_layout.specs.Orders.{LaysOut}
 use Rattle.ea_layout.specs.Renamed.{StayNodes}
 
--- Each source is at a node that gets a new number, which is that of a node.
+-- Each source is at a node that has a new number, and new numbers are those of nodes.
 pub record CanRename (numbers : List ℕ) (sources : List Source) : Type 0 where
   pub nodes : (source : Source) → IsAmong sources source → IsNode (length numbers) source.node
   pub inside : StayNodes numbers

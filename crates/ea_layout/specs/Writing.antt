@@ -23,12 +23,12 @@ pub record CopiesLabel (places laid : List ℕ) (target : ℕ) (labels labels' :
   pub copied : AreLabelsCopied (length places) (Some target) places laid labels'
   pub others : (node : ℕ) → node ≢ target → bound_of labels' node ≡ bound_of labels node
 
--- Links under the numbers of a layout can be copied into these links.
+-- A link under the numbers of a layout can be copied into these links.
 pub record CanCopyLink (layout : Layout) (laid links : List Link) : Type 0 where
   pub places : length links ≡ length laid
   pub reverse : AreReverse (length laid) layout.places.items layout.nodes.items
 
--- And they can be followed.
+-- All links can be copied, and can be followed.
 pub record CanCopyLinks (layout : Layout) (laid links : List Link) : Type 0 where
   pub can : CanCopyLink layout laid links
   pub followable : AreFollowable laid
@@ -38,7 +38,7 @@ pub record CopiesLinks (layout : Layout) (laid links' : List Link) : Type 0 wher
   pub copied : AreLinksCopied (length laid) layout.places.items layout.nodes.items laid links'
   pub all : (node : ℕ) → IsNode (length laid) node → IsLinkCopied layout.places.items layout.nodes.items laid links' node
 
--- The target is a node, and its link has a level.
+-- The target is a node, and its link under its new number has a level.
 pub record HasWalkTo (layout : Layout) (laid : List Link) (target : ℕ) : Type 0 where
   pub is_node : IsNode (length laid) target
   pub level : HasLevel laid (number_of layout.places.items target)
@@ -51,7 +51,8 @@ pub record CopiesLink (layout : Layout) (laid : List Link) (at : ℕ) (links lin
   pub there : IsListed listing' (number_of layout.nodes.items at)
   pub kept : KeepsListed (IsListed listing) (IsListed listing')
 
--- The links of the walk to a target were copied, and no others. Their nodes are listed.
+-- The link of a target was copied, and with each node's link that of the node before it on its walk. Nodes that
+-- have a link are listed.
 pub record CopiesWalk (layout : Layout) (laid : List Link) (target : ℕ) (links' : List Link) (listing listing' : Listing) : Type 0 where
   pub copied : AreLinksCopied (length laid) layout.places.items layout.nodes.items laid links'
   pub of_target : IsLinkCopied layout.places.items layout.nodes.items laid links' target

@@ -13,7 +13,7 @@ use Rattle.ea_search.specs.Worklist.{Ring}
 use Rattle.ea_paths.specs.Offers.{AreSown, Offers}
 use Rattle.ea_paths.specs.Replayed.{IsSeedLink}
 
--- The travel times have each arc's class, and each node has a label, a link and room to wait.
+-- The travel times have each arc's class, and each node has a label, a place for its link and room to wait.
 pub record CanOffer (roads : Roads) (classes : ℕ) (table : List ℕ) (links : List Link) (waiting : Ring) : Type 0 where
   pub classed : top_class roads.arcs ≤ classes
   pub labels : length table ≡ roads.nodes
@@ -26,7 +26,7 @@ pub record CanSpread (nodes : ℕ) (table : List ℕ) (links : List Link) (node 
   pub departure : bound_of table node ≤ HORIZON
   pub level : (link links node).level + 1 < NO_LEVEL
 
--- An arc is left at its tail's label, and this is a link by the arc.
+-- An arc is left at its tail's label, within the horizon, and this is a link by the arc.
 pub record IsLinkBy (roads : Roads) (table : List ℕ) (arc : Arc) (departure : ℕ) (new : Link) : Type 0 where
   pub is_arc : IsArc roads new.arc arc
   pub tail : arc.tail ≡ new.from

@@ -9,8 +9,8 @@ use Rattle.ea_search.specs.Notes.{AreHad, by_none, had_after, met_after, notes_i
 use Rattle.ea_search.specs.Scans.{AwaitsScans, MeetsAll}
 use Rattle.ea_search.specs.Underway.{bound_of}
 
--- The notes of a search: by each arc that they give a label, the label was had, and they have each arc by which
--- a label is met.
+-- What notes tell of these labels is right: each label was had by the arcs that they tell of it, and they tell
+-- each arc by which it is met.
 pub record AreNotesOf (roads : Roads) (answers : ℕ → ℕ → ℕ → ℕ → Type 0) (table : List ℕ) (notes : List Note) : Type 0 where
   pub had : AreHad roads answers table (had_after notes by_none)
   pub met : (node : ℕ) → bound_of table node ≢ NONE → MeetsAll roads answers table (met_after notes by_none) node (bound_of table node)

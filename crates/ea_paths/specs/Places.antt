@@ -5,17 +5,17 @@ use Rattle.ea_search.specs.declared.link.Link.{Link}
 use Rattle.ea_search.specs.Links.{link, no_link}
 use Rattle.ea_search.specs.Worklist.{Ring}
 
--- Each node has a link, and room to wait.
+-- There is a place for the link of each node, and room for each node to wait.
 pub record HavePlaces (nodes : ℕ) (links : List Link) (waiting : Ring) : Type 0 where
   pub places : length links ≡ nodes
   pub room : waiting.nodes ≡ nodes
 
--- This node has a link, and room to wait.
+-- There is a place for the link of this node, and room for it to wait.
 pub record HasPlace (node : ℕ) (links : List Link) (waiting : Ring) : Type 0 where
   pub is_node : IsNode waiting.nodes node
   pub places : length links ≡ waiting.nodes
 
--- This node has a link that doesn't begin a walk, and room to wait.
+-- The same for a node whose link doesn't begin a walk.
 pub record IsLaterNode (node : ℕ) (links : List Link) (waiting : Ring) : Type 0 where
   pub place : HasPlace node links waiting
   pub level : (link links node).level ≢ 0
@@ -26,8 +26,8 @@ pub record HaveNoLinks (nodes : ℕ) (links : List Link) (waiting : Ring) : Type
   pub nobody : waiting.waiting ≡ []
   pub room : waiting.nodes ≡ nodes
 
--- A step that may be given up: each node still has a link and room to wait and, unless it was given up, this was
--- done.
+-- A step that may be given up: each node still has its place and room to wait and, unless the step was given up,
+-- this was done.
 pub record TakesStep (nodes : ℕ) (goes_on : Bool) (links : List Link) (waiting : Ring) (what : Type 0) : Type 0 where
   pub places : HavePlaces nodes links waiting
   pub done : IsTrue goes_on → what
