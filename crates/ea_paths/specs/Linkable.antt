@@ -11,6 +11,7 @@ use Rattle.ea_search.specs.Links.{AreLinks, AreStarts, link}
 use Rattle.ea_search.specs.Underway.{bound_of}
 use Rattle.ea_search.specs.Worklist.{Ring}
 use Rattle.ea_paths.specs.Offers.{AreSown, Offers}
+use Rattle.ea_paths.specs.Places.{HaveNoLinks}
 use Rattle.ea_paths.specs.Replayed.{IsSeedLink}
 
 -- The travel times have each arc's class, and each node has a label, a place for its link and room to wait.
@@ -34,11 +35,12 @@ pub record IsLinkBy (roads : Roads) (table : List ℕ) (arc : Arc) (departure : 
   pub departs : departure ≡ bound_of table new.from
   pub level : new.level < NO_LEVEL
 
--- The travel times have each arc's class, sources are at nodes, and each node has a label.
-pub record CanLink (roads : Roads) (classes : ℕ) (sources : List Source) (table : List ℕ) : Type 0 where
+-- The travel times have each arc's class, sources are at nodes, and each node has a label and no link yet.
+pub record CanLink (roads : Roads) (classes : ℕ) (sources : List Source) (table : List ℕ) (links : List Link) (waiting : Ring) : Type 0 where
   pub classed : top_class roads.arcs ≤ classes
   pub starts : AreStarts roads.nodes sources
   pub labels : length table ≡ roads.nodes
+  pub begins : HaveNoLinks roads.nodes links waiting
 
 -- Each node has its link over the labels of a table, and no node waits.
 pub record HaveLinks

@@ -7,7 +7,7 @@ ghost use Rattle.ea_search.specs.Links.{AreLinks, AreStarts, link, no_link};
 ghost use Rattle.ea_road.specs.declared.TheConstants.{NONE};
 ghost use Rattle.ea_paths.specs.Linkable.{CanLink, CanOffer, CanSpread, HaveLinks, IsLinkBy};
 ghost use Rattle.ea_paths.specs.Offers.{IsAlong, IsOne, IsSpread, LinksSource, OffersEach};
-ghost use Rattle.ea_paths.specs.Places.{HasPlace, HaveNoLinks};
+ghost use Rattle.ea_paths.specs.Places.{HasPlace};
 ghost use Rattle.ea_search.specs.Underway.{IsFinished, bound_of};
 
 use crate::answer::Answer;
@@ -151,8 +151,8 @@ pub(crate) fn link_all<T: TravelTimes>(
     links: &mut [Link],
     waiting: &mut Waiting,
 )
-    requires can { CanLink network.now (T.classes times.now) sources.now table.now }
-    requires none { HaveNoLinks network.now.nodes links.old waiting.old }
+    requires { CanLink network.now (T.classes times.now) sources.now table.now
+        links.old waiting.old }
     ensures linked { HaveLinks network.now (T.answers times.now) sources.now table.now
         links.new waiting.new }
     ensures labelled { (node : ℕ) → bound_of table.now node ≡ NONE

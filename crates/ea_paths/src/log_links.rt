@@ -85,8 +85,8 @@ fn link_by_notes<T: TravelTimes>(
     waiting: &mut Waiting,
     ties: &mut Ties,
 ) -> bool
-    requires can { CanLink network.now (T.classes times.now) sources.now noted.now.labels.items }
-    requires none { HaveNoLinks network.now.nodes links.old waiting.old }
+    requires can { CanLink network.now (T.classes times.now) sources.now noted.now.labels.items
+        links.old waiting.old }
     requires notes { AreNotesOf network.now (T.answers times.now) noted.now.labels.items
         (notes_in noted.now.notes) }
     ensures { TakesStep network.now.nodes result links.new waiting.new

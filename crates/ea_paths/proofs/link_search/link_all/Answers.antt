@@ -18,14 +18,14 @@ among_at sources place inside = (place, (inside, get_or_default sources place no
 
 pub loop-source-init : goal.loop-source-init
 loop-source-init g c = record {
-  linking = rw (c.requires.none.none, c.requires.none.nobody) (Linking-none _ _ _ _);
+  linking = rw (c.requires.begins.none, c.requires.begins.nobody) (Linking-none _ _ _ _);
   sown = λ k d l. absurd (omega arith);
-  room = c.requires.none.room;
+  room = c.requires.begins.room;
 }
 
 pub sow-requires-clause-place : goal.sow-requires-clause-place
 sow-requires-clause-place g c =
-    let start = c.requires.can.starts _ (among_at c.args.sources.now c.loop-source.source-index c.loop-source-test.true) in
+    let start = c.requires.starts _ (among_at c.args.sources.now c.loop-source.source-index c.loop-source-test.true) in
     let room = c.loop-source.invariant.room in
     record {
       is_node = record { from_one = start.0.from_one; to_last = omega (arith, start.0.to_last, room) };
@@ -33,14 +33,14 @@ sow-requires-clause-place g c =
     }
 
 pub sow-requires-clause-labels : goal.sow-requires-clause-labels
-sow-requires-clause-labels g c = c.requires.can.labels ∙ sym c.loop-source.invariant.room
+sow-requires-clause-labels g c = c.requires.labels ∙ sym c.loop-source.invariant.room
 
 pub loop-source-preserved : goal.loop-source-preserved
 loop-source-preserved g c =
     let sources = c.args.sources.now in
     let place = c.loop-source.source-index in
     let among = among_at sources place c.loop-source-test.true in
-    let start = c.requires.can.starts _ among in
+    let start = c.requires.starts _ among in
     let seeds = rw c.loop-source.invariant.room at c.sow.ensures.seeds in
     let others = c.sow.ensures.others in
     let step = sow_step _ _ _ _ (get_or sources place none) c.loop-source.links c.sow.new.links c.loop-source.waiting.waiting c.sow.new.waiting.waiting among start.1 c.loop-source.invariant.linking seeds
@@ -53,8 +53,8 @@ loop-source-preserved g c =
 
 pub spread-requires-clause-can : goal.spread-requires-clause-can
 spread-requires-clause-can g c = record {
-  classed = c.requires.can.classed;
-  labels = c.requires.can.labels;
+  classed = c.requires.classed;
+  labels = c.requires.labels;
   places = c.loop-node.invariant.linking.places;
   room = c.in-Some.ensures.nodes ∙ c.loop-node.invariant.room;
 }
@@ -92,7 +92,7 @@ returns-clause-linked g c =
     let taken = c.in_default.ensures.taken in
     let linking = rw taken.0 at c.loop-node.invariant.linking in
     let few = c.keeps_limits.ensures.nodes_limit in
-    let can = c.requires.can in
+    let can = c.requires in
     record {
       are_links = are_links c.args.network.now _ _ c.args.sources.now c.keeps_limits.ensures can.classed (g.met.T.TravelTimes.fifo c.args.times.now) can.starts c.args.table.now can.labels c.loop-node.links (Settled-linking _ _ _ _ _ (omega arith) linking) c.loop-node.invariant.sown;
       nobody = ap (λ (w : Ring). w.waiting) taken.1 ∙ taken.0;

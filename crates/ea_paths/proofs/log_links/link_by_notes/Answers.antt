@@ -10,7 +10,7 @@ use Rattle.ea_paths.proofs.Sowings.{AreReplayed-none, AreReplayed-sown}
 use Rattle.ea_paths.proofs.log_links.link_by_notes.Goals as goal
 
 pub sow_all-requires-clause-sources : goal.sow_all-requires-clause-sources
-sow_all-requires-clause-sources g c = rw c.requires.none.room c.requires.can.starts
+sow_all-requires-clause-sources g c = rw c.requires.can.begins.room c.requires.can.starts
 
 pub sow_all-requires-2-clause-sources : goal.sow_all-requires-2-clause-sources
 sow_all-requires-2-clause-sources g c = rw c.replay.ensures.places.room c.requires.can.starts
@@ -30,7 +30,7 @@ returns g c = record {
       let had = had_after notes by_none in
       let met = met_after notes by_none in
       let P : List Link → Type 0 = λ xs. AreReplayed network sources table by_none by_none xs c.args.waiting.now.waiting in
-      let first = subst P (sym c.requires.none.none) (AreReplayed-none network sources table c.args.waiting.now.waiting) in
+      let first = subst P (sym c.requires.can.begins.none) (AreReplayed-none network sources table c.args.waiting.now.waiting) in
       let begun = AreReplayed-sown network sources table by_none by_none _ _ _ _ _ first c.sow_all.ensures.offers in
       let followed = c.replay.ensures.done c.if-not-replay.false sources table begun in
       let again = AreReplayed-sown network sources table had met _ _ _ _ _ followed.0 c.sow_all-2.ensures.offers in

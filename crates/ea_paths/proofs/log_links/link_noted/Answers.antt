@@ -1,4 +1,4 @@
-use Rattle.std.proofs.Common.{◌≡◌, ◌≤◌, inl, inr, sym, ◌∙◌, ap, arith}
+use Rattle.std.proofs.Common.{rules, ◌≡◌, ◌≤◌, inl, inr, sym, ◌∙◌, ap, arith}
 use Rattle.std.proofs.lemmas.Bool.{false≢true}
 use Rattle.ea_base.specs.declared.limits.TheConstants.{HORIZON}
 use Rattle.ea_road.specs.declared.TheConstants.{NONE}
@@ -13,6 +13,7 @@ link_by_notes-requires-clause-can g c =
       classed = problem.classed;
       starts = rw c.sources-sources.ensures.sources (λ source among. (problem.sources source among, problem.departures source among));
       labels = c.requires.log.met.places;
+      begins = c.requires.none;
     }
 
 pub link_by_notes-requires-clause-notes : goal.link_by_notes-requires-clause-notes
@@ -39,11 +40,12 @@ link_by_notes-requires-clause-notes g c = record {
       ];
 }
 
-pub link_all-requires-clause-can : goal.link_all-requires-clause-can
-link_all-requires-clause-can g c =
+pub link_all-requires : goal.link_all-requires
+link_all-requires g c =
     let problem = c.requires.all.problem in
     record {
       classed = problem.classed;
       starts = rw c.sources-sources.ensures.sources (λ source among. (problem.sources source among, problem.departures source among));
       labels = rw c.deref.ensures.value c.requires.log.met.places;
+      begins = search rules;
     }

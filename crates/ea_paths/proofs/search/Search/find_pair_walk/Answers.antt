@@ -1,4 +1,4 @@
-use Rattle.std.proofs.Common.{◌≡◌, ℕ, true, length, refl, sym, ap, ◌∙◌, ◌⊎◌, inl, inr, arith}
+use Rattle.std.proofs.Common.{rules, ◌≡◌, ℕ, true, length, refl, sym, ap, ◌∙◌, ◌⊎◌, inl, inr, arith}
 use Rattle.std.proofs.lemmas.Bool.{cases_eq}
 use Rattle.std.proofs.lemmas.List.{with_items_is}
 use Rattle.ea_road.specs.declared.TheConstants.{NONE}
@@ -21,13 +21,14 @@ find-lists-requires-clause-begins g c =
       room = ap (λ (w : Worklist). w.nodes) arrays.todo ∙ c.requires.nodes;
     }
 
-pub link_all-requires-clause-can : goal.link_all-requires-clause-can
-link_all-requires-clause-can g c =
+pub link_all-requires : goal.link_all-requires
+link_all-requires g c =
     let problem = c.requires.problem in
     record {
       classed = problem.classed;
       starts = rw c.sources-sources.ensures.sources (λ source among. (problem.sources source among, problem.departures source among));
       labels = rw c.deref.ensures.value c.find-lists.ensures.ended.finished.places;
+      begins = search rules;
     }
 
 pub new-answer-requires : goal.new-answer-requires

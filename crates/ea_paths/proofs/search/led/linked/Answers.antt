@@ -1,4 +1,4 @@
-use Rattle.std.proofs.Common.{◌≡◌, ℕ, true, length, refl, sym, ap, ◌∙◌, ◌⊎◌, inl, inr, arith}
+use Rattle.std.proofs.Common.{rules, ◌≡◌, ℕ, true, length, refl, sym, ap, ◌∙◌, ◌⊎◌, inl, inr, arith}
 use Rattle.std.proofs.lemmas.Bool.{cases_eq}
 use Rattle.std.proofs.lemmas.List.{with_items_is}
 use Rattle.ea_road.specs.declared.TheConstants.{NONE}
@@ -11,13 +11,14 @@ use Rattle.ea_paths.proofs.LedAnswers.{led_is_answer, led_stored}
 use Rattle.ea_paths.proofs.Guided.{fits_too}
 use Rattle.ea_paths.proofs.search.led.linked.Goals as goal
 
-pub link_all-requires-clause-can : goal.link_all-requires-clause-can
-link_all-requires-clause-can g c =
+pub link_all-requires : goal.link_all-requires
+link_all-requires g c =
     let problem = c.requires.pair.problem in
     record {
       classed = problem.classed;
       starts = rw c.sources-sources.ensures.sources (λ source among. (problem.sources source among, problem.departures source among));
       labels = rw c.deref.ensures.value c.requires.labelled.labels;
+      begins = search rules;
     }
 
 pub new-requires : goal.new-requires
