@@ -1,7 +1,7 @@
 //! Laws of other numbers for the nodes of a network, as functions that do nothing.
-ghost use Rattle.std.specs.Prelude.{◌≡◌, ◌↔◌, ℕ, List, Option};
+ghost use Rattle.std.specs.Prelude.{◌↔◌, ℕ, List, Option};
 ghost use Rattle.ea_layout.specs.Renamed.{AreReverse, number_of, renamed_query, renamed_roads, renamed_sources};
-ghost use Rattle.ea_road.specs.Arrivals.{Attains, IsLeast, IsLeastAt};
+ghost use Rattle.ea_road.specs.Arrivals.{IsLeast, IsLeastAt};
 ghost use Rattle.ea_road.specs.Levels.{IsCanonical, IsLevel};
 ghost use Rattle.ea_road.specs.Queries.{IsProblem};
 ghost use Rattle.ea_road.specs.Roads.{IsNetwork, IsNode};

@@ -1,5 +1,5 @@
 //! Lists for the replay: nodes with several arcs at their labels, and nodes whose level changed.
-ghost use Rattle.std.specs.Prelude.{◌≡◌, ◌∷◌, ◌++◌, [], length, IsTrue};
+ghost use Rattle.std.specs.Prelude.{◌≡◌, ◌∷◌, ◌++◌, [], IsTrue};
 ghost use Rattle.ea_paths.specs.Replayed.{WakesTails};
 
 use ea_search::Waiting;
