@@ -42,7 +42,27 @@ fn boxed(
     Ok(Box::new(alloc, Content::Road(Share::with(terrain, prepared)))?)
 }
 
-/// A road with a preparation, or the refusal's number.
+/// A preparation of a road.
+fn preparation_of(alloc: Global, terrain: &Terrain) -> Result<Prepared, Unprepared>
+    ensures prepared { IfOk result
+        (IsPreparedFor terrain.now.road.network (times_on terrain.now.road)) }
+    ensures refused { IfErr result (λ why. why ≡ NoOrder → ⊥) }
+{
+    Prepared::of(alloc, &terrain.road.network, &terrain.road.times)
+}
+
+/// A preparation of a road over an order of its nodes.
+fn preparation_by(alloc: Global, terrain: &Terrain, order: &[u32]) -> Result<Prepared, Unprepared>
+    ensures prepared { IfOk result
+        (IsPreparedFor terrain.now.road.network (times_on terrain.now.road)) }
+    ensures order { IfOk result (λ prepared. IsOrder terrain.now.road.network.nodes order.now) }
+    ensures refused { IfErr result (λ why. why ≡ NoOrder
+        → IsOrder terrain.now.road.network.nodes order.now → ⊥) }
+{
+    Prepared::with_order(alloc, &terrain.road.network, &terrain.road.times, order)
+}
+
+/// A road with a preparation, in a new box.
 fn prepared_road(
     alloc: Global,
     terrain: &Arc<Terrain, Global>,
@@ -50,12 +70,12 @@ fn prepared_road(
     ensures made { IfOk result (λ it. IsRoadPrepared (arc_value terrain.now).road (Some it.value)) }
     ensures refused { IfErr result (λ why. why ≡ NoOrder → ⊥) }
 {
-    let prepared = Prepared::of(alloc, &terrain.road.network, &terrain.road.times)?;
+    let prepared = preparation_of(alloc, terrain)?;
     let terrain = Arc::try_clone(terrain)?;
     Ok(boxed(alloc, terrain, prepared)?)
 }
 
-/// A road with a preparation over an order of its nodes.
+/// A road with a preparation over an order of its nodes, in a new box.
 fn road_by_order(
     alloc: Global,
     terrain: &Arc<Terrain, Global>,
@@ -66,8 +86,7 @@ fn road_by_order(
     ensures refused { IfErr result (λ why. why ≡ NoOrder
         → IsOrder (arc_value terrain.now).road.network.nodes order.now → ⊥) }
 {
-    let prepared =
-        Prepared::with_order(alloc, &terrain.road.network, &terrain.road.times, order)?;
+    let prepared = preparation_by(alloc, terrain, order)?;
     let terrain = Arc::try_clone(terrain)?;
     Ok(boxed(alloc, terrain, prepared)?)
 }
@@ -89,11 +108,7 @@ fn prepared_of(alloc: Global, content: &Content) -> Result<Box<Content, Global>,
 }
 
 /// The road of a content with a preparation over an order, or the refusal's number.
-fn prepared_by(
-    alloc: Global,
-    content: &Content,
-    order: &[u32],
-) -> Result<Box<Content, Global>, u32>
+fn prepared_by(alloc: Global, content: &Content, order: &[u32]) -> Result<Box<Content, Global>, u32>
     ensures made { IfOk result (λ it. IsPreparedOf (road_in (Some content.now)) it.value) }
     ensures refused { IfErr result (λ number.
         MatchOption (road_in (Some content.now)) (number ≡ 16) (λ _. IsUnprepared number)) }
