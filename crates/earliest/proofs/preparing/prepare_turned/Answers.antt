@@ -15,5 +15,5 @@ returns-in-Ok c =
     let tables = c.args.road.now.times.tables in
     let answers : ℕ → ℕ → ℕ → ℕ → Type 0 = TimetablesAnswer tables.list.items (steps_in tables.steps) in
     let turned : IsPreparedFor network (λ class weight departure arrival. IsTurned answers class weight departure arrival) c.in-Ok.prepared =
-    subst (λ (t : Timetables). IsPreparedFor network (λ class weight departure arrival. IsTurned (TimetablesAnswer t.list.items (steps_in t.steps)) class weight departure arrival) c.in-Ok.prepared) c.of.ensures c.in-Ok.ensures in
+    subst (λ (t : Timetables). IsPreparedFor network (λ class weight departure arrival. IsTurned (TimetablesAnswer t.list.items (steps_in t.steps)) class weight departure arrival) c.in-Ok.prepared) c.of.ensures c.in-Ok.ensures.prepared in
     subst (λ (d : Direction). IsPreparedFor network (λ class weight departure arrival. IsDirected d answers class weight departure arrival) c.in-Ok.prepared) (sym c.requires.turned) turned
