@@ -186,7 +186,7 @@ class Answers(Case):
             road = earliest.Road(net.gr(), net.tp())
             for order in ([], range(1, 40), [*range(1, 40), 39], [1] * 40, [*range(1, 41), 1]):
                 self.refused(27, lambda: road.prepare(order))
-            self.refused(18, lambda: road.prepare([*range(40)]))
+            self.refused(18, lambda: road.prepare([*range(40)]), 0)
             self.assertEqual((road.prepared, flat(road.pairs(sources, targets, departures))), (False, want))
 
     def test_a_road_that_is_not_worth_a_preparation(self):
