@@ -25,7 +25,7 @@ pub(crate) struct Row {
     links: Vec<Link>,
 }
 
-/// The rows of ranks with many arcs. A hint tells which row may be a rank's, by the place of its first arc; what the row says of itself
+/// The rows of ranks with many arcs. A hint says which row may be a rank's, by the place of its first arc; what the row says of itself
 /// decides.
 #[derive(Drop)]
 pub(crate) struct Trimmed {

@@ -32,7 +32,7 @@ abbrev pub AreReady : List Link → Type 0
 AreReady links = (v : ℕ) → IsReady (link links v)
 
 -- A node was repaired: links by its tight arcs were offered, all of them if one more level fits above its own.
--- The repair may go on only if it does.
+-- The repair may continue only if it does.
 pub record MendsNode
     (roads : Roads)
     (answers : ℕ → ℕ → ℕ → ℕ → Type 0)

@@ -55,7 +55,7 @@ pub record CanBegin (nodes : ℕ) (labels : List ℕ) (had : ℕ → ℕ → ℕ
   pub emptied : AreEmptied lists
   pub room : todo.nodes ≡ nodes
 
--- A search for a query ended: its labels are least, what is told of the arcs by which they were had or met is
+-- A search for a query ended: its labels are least, what it says of the arcs by which they were had or met is
 -- right, each node that has a label is listed, and lists have no entry.
 pub record HasEnded
     (roads : Roads)
