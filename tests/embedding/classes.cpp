@@ -28,6 +28,14 @@ int main() {
     TEST(far.to({1, 0}, 4) == search.to({1, 0}, 4) && far.walk(4) == search.walk(4) && far.to({4, 0}, 1) == std::nullopt);
     TEST(far.from({{1, 0}}).arrivals() == (std::vector<std::uint64_t>{0, 5, 2, 6}));
     TEST(earliest::latest(led).from(1, {4, 7}) == std::optional<std::uint64_t>(1));
+    std::vector<std::uint32_t> order = {3, 1, 4, 2}, twice = {3, 1, 3, 2};
+    TEST(earliest::search(plain.prepared(order)).to({1, 0}, 4) == search.to({1, 0}, 4) && led.prepared(order).nodes() == 4);
+    try {
+        plain.prepared(twice);
+        TEST(false);
+    } catch (const earliest::failure &refused) {
+        TEST(refused.number() == EARLIEST_NO_ORDER);
+    }
     earliest::road moved = std::move(led);
     TEST(earliest::search(moved, false).to({1, 3}, 4) == std::optional<std::uint64_t>(9));
     try {
