@@ -17,14 +17,13 @@ use Rattle.ea_load.specs.declared.file_fault.FileFault.TheVariants as file
 use Rattle.ea_load.specs.declared.file_fault.FileWord.{FileWord}
 use Rattle.ea_load.specs.declared.file_fault.FileWord.TheVariants.{Tp}
 use Rattle.ea_base.specs.declared.direction.Direction.{Direction}
-use Rattle.ea_road.specs.Turned.{directed_roads}
 use Rattle.ea_travel_times.specs.Directed.{IsDirected}
 use Rattle.ea_load.specs.declared.files.OptionalFiles.{OptionalFiles}
-use Rattle.ea_load.specs.Files.{AreExtras, AreUntouched, ExtraFiles, Extras, bytes_there, extra_files, in_network, in_starts, in_table, IsBorne, IsBorneIfThere, IsExtraFault, IsFaultIfThere, IsFirstFault, IsFoundIn, Reading, tables}
+use Rattle.ea_load.specs.Files.{Extras, bytes_there, in_network, in_starts, in_table, IsBorne, IsBorneIfThere, IsFaultIfThere, IsFirstFault, IsFoundIn, Reading, tables}
 use Rattle.ea_load.specs.Given.{Given, AreGiven, IsRoadOf, times_in}
 use Rattle.ea_load.specs.Sound.{IsSound}
 use Rattle.ea_load.proofs.Denoting.{denoting_is_sound}
-use Rattle.ea_load.specs.Asked.{AreAllRead, AreAsked, AreRoadFiles, AreSound, Asks, Files, files_of, in_extras, in_road, IsAnswered, IsFailed, IsFault, tables_of}
+use Rattle.ea_load.specs.Asked.{AreAllRead, AreAsked, AreRoadFiles, AreSound, Asks, Files, files_of, in_road, IsAnswered, IsFailed, IsFault}
 use Rattle.ea_load.specs.Faults.{answer_fault}
 use Rattle.ea_load.specs.Posed.{times_on}
 use Rattle.ea_load.specs.declared.answer_fault.AnswerFault.{AnswerFault}

@@ -1,6 +1,6 @@
 -- What files denote are problems of their road.
 use Rattle.std.proofs.Common.{◌≡◌, ℕ, zero, suc, ◌≤◌, Bool, true, false, List, [], ◌∷◌, length, get_or, map, ap, sym, arith, subst}
-use Rattle.std.specs.Prelude.{All, Some, unwrap_or}
+use Rattle.std.specs.Prelude.{All, unwrap_or}
 use Rattle.std.proofs.lemmas.Option.{none-some}
 use Rattle.std.proofs.lemmas.List.{length-map}
 use Rattle.ea_base.specs.declared.limits.TheConstants.{HORIZON}
