@@ -112,7 +112,11 @@ fn links_of(alloc: Global, upward: &Upward, ups: &[u32], rank: u32) -> Result<Ve
             mark(upward, ups, rank, place, &mut marks);
         }
     }
-    let mut links = Vec::new(alloc);
+    let mut left = 0usize;
+    for is_marked in &marks {
+        left = left.saturating_add(usize::from(!*is_marked));
+    }
+    let mut links = Vec::with_capacity(alloc, left)?;
     for place in begin..end {
         if !marks[place - begin] {
             links.push(Link {
