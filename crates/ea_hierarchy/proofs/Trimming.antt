@@ -13,11 +13,11 @@ use Rattle.ea_hierarchy.proofs.Reaching.{same_or_not}
 use Rattle.ea_hierarchy.proofs.Sums.{plus_over}
 
 -- one more arc has a mark
-pub marked_more : (firsts heads ups : List ℕ) (rank later : ℕ) (marks : List Bool) → AreMarked firsts heads ups rank marks → IsFrom firsts rank later → IsReplaced firsts heads ups rank later → AreMarked firsts heads ups rank (set marks (later - slice_index firsts rank) true)
-marked_more firsts heads ups rank later marks are from is = record {
+pub marked_more : (firsts heads numbers : List ℕ) (rank later : ℕ) (marks : List Bool) → AreMarked firsts heads numbers rank marks → IsFrom firsts rank later → IsReplaced firsts heads numbers rank later → AreMarked firsts heads numbers rank (set marks (later - slice_index firsts rank) true)
+marked_more firsts heads numbers rank later marks are from is = record {
   count = omega (arith, are.count, length-set marks (later - slice_index firsts rank) true);
   replaced = λ place from_place marked. elim (same_or_not place later) [
-    | inl same ↦ subst (λ p. IsReplaced firsts heads ups rank p) (sym same) is
+    | inl same ↦ subst (λ p. IsReplaced firsts heads numbers rank p) (sym same) is
     | inr differs ↦
         let other : slice_index_or (set marks (later - slice_index firsts rank) true) (place - slice_index firsts rank) false ≡ slice_index_or marks (place - slice_index firsts rank) false =
         get_or-set_other marks (later - slice_index firsts rank) (place - slice_index firsts rank) true false (λ same. differs (omega (arith, same, from.from, from_place.from))) in
@@ -28,15 +28,15 @@ marked_more firsts heads ups rank later marks are from is = record {
 -- ---- the arcs that are left
 
 abbrev pub link_at : List ℕ → List ℕ → ℕ → Link
-link_at heads ups place = record { head = slice_index heads place; number = slice_index ups place }
+link_at heads numbers place = record { head = slice_index heads place; number = slice_index numbers place }
 
 -- links are the arcs before a place that have no mark
-pub record AreGathered (firsts heads ups : List ℕ) (rank : ℕ) (marks : List Bool) (links : List Link) (to : ℕ) : Type 0 where
-  pub arcs : (link : Link) → Contains links link → IsLink firsts heads ups rank link
-  pub rest : (place : ℕ) → IsFrom firsts rank place → place < to → Contains links (link_at heads ups place) ⊎ (slice_index_or marks (place - slice_index firsts rank) false ≡ true)
+pub record AreGathered (firsts heads numbers : List ℕ) (rank : ℕ) (marks : List Bool) (links : List Link) (to : ℕ) : Type 0 where
+  pub arcs : (link : Link) → Contains links link → IsLink firsts heads numbers rank link
+  pub rest : (place : ℕ) → IsFrom firsts rank place → place < to → Contains links (link_at heads numbers place) ⊎ (slice_index_or marks (place - slice_index firsts rank) false ≡ true)
 
-pub gathered_skips : (firsts heads ups : List ℕ) (rank : ℕ) (marks : List Bool) (links : List Link) (to : ℕ) → slice_index_or marks (to - slice_index firsts rank) false ≡ true → AreGathered firsts heads ups rank marks links to → AreGathered firsts heads ups rank marks links (to + 1)
-gathered_skips firsts heads ups rank marks links to marked are = record {
+pub gathered_skips : (firsts heads numbers : List ℕ) (rank : ℕ) (marks : List Bool) (links : List Link) (to : ℕ) → slice_index_or marks (to - slice_index firsts rank) false ≡ true → AreGathered firsts heads numbers rank marks links to → AreGathered firsts heads numbers rank marks links (to + 1)
+gathered_skips firsts heads numbers rank marks links to marked are = record {
   arcs = are.arcs;
   rest = λ place from before. elim (leb_tells to place) [
     | inl last ↦ inr (subst (λ p. slice_index_or marks (p - slice_index firsts rank) false ≡ true) (omega (arith, last.1, before)) marked)
@@ -44,23 +44,23 @@ gathered_skips firsts heads ups rank marks links to marked are = record {
   ];
 }
 
-pub gathered_more : (firsts heads ups : List ℕ) (rank : ℕ) (marks : List Bool) (links : List Link) (to : ℕ) → IsFrom firsts rank to → AreGathered firsts heads ups rank marks links to → AreGathered firsts heads ups rank marks (links ++ link_at heads ups to ∷ []) (to + 1)
-gathered_more firsts heads ups rank marks links to is are = record {
-  arcs = λ link there. elim (Contains-push_cases links (link_at heads ups to) link there) [
+pub gathered_more : (firsts heads numbers : List ℕ) (rank : ℕ) (marks : List Bool) (links : List Link) (to : ℕ) → IsFrom firsts rank to → AreGathered firsts heads numbers rank marks links to → AreGathered firsts heads numbers rank marks (links ++ link_at heads numbers to ∷ []) (to + 1)
+gathered_more firsts heads numbers rank marks links to is are = record {
+  arcs = λ link there. elim (Contains-push_cases links (link_at heads numbers to) link there) [
     | inl was ↦ are.arcs link was
     | inr last ↦ record { place = to; is_from = is; head = ap (λ (l : Link). l.head) last; number = ap (λ (l : Link). l.number) last }
   ];
   rest = λ place from before. elim (leb_tells to place) [
-    | inl last ↦ inl (subst (λ p. Contains (links ++ link_at heads ups to ∷ []) (link_at heads ups p)) (omega (arith, last.1, before)) (Contains-push links (link_at heads ups to)))
+    | inl last ↦ inl (subst (λ p. Contains (links ++ link_at heads numbers to ∷ []) (link_at heads numbers p)) (omega (arith, last.1, before)) (Contains-push links (link_at heads numbers to)))
     | inr earlier ↦ elim (are.rest place from earlier.1) [
-      | inl there ↦ inl (Contains-append_left links (link_at heads ups to ∷ []) (link_at heads ups place) there)
+      | inl there ↦ inl (Contains-append_left links (link_at heads numbers to ∷ []) (link_at heads numbers place) there)
       | inr marked ↦ inr marked
     ]
   ];
 }
 
-pub trimmed_of : (firsts heads ups : List ℕ) (rank : ℕ) (marks : List Bool) (links : List Link) → AreMarked firsts heads ups rank marks → AreGathered firsts heads ups rank marks links (slice_index firsts (rank + 1)) → IsTrimmed firsts heads ups rank links
-trimmed_of firsts heads ups rank marks links marked are = record {
+pub trimmed_of : (firsts heads numbers : List ℕ) (rank : ℕ) (marks : List Bool) (links : List Link) → AreMarked firsts heads numbers rank marks → AreGathered firsts heads numbers rank marks links (slice_index firsts (rank + 1)) → IsTrimmed firsts heads numbers rank links
+trimmed_of firsts heads numbers rank marks links marked are = record {
   arcs = are.arcs;
   rest = λ place from. elim (are.rest place from from.before) [
     | inl there ↦ inl there
@@ -115,45 +115,45 @@ least_alike bound other links reach same_reach least alike same by = record {
   ];
 }
 
-module _ (nodes : ℕ) (firsts heads ups : List ℕ) (are : IsUpward nodes firsts heads) (reach : ℕ → ℕ) (rank : ℕ) (below : rank < nodes) (links : List Link) (trimmed : IsTrimmed firsts heads ups rank links) where
+module _ (nodes : ℕ) (firsts heads numbers : List ℕ) (are : IsUpward nodes firsts heads) (reach : ℕ → ℕ) (rank : ℕ) (below : rank < nodes) (links : List Link) (trimmed : IsTrimmed firsts heads numbers rank links) where
   -- an arc has no less over it than one that is left
   record IsNoMore (place : ℕ) : Type 0 where
     link : Link
     there : Contains links link
-    is : plus link.number (worth nodes firsts heads ups are reach link.head) ≤ plus (slice_index ups place) (worth nodes firsts heads ups are reach (slice_index heads place))
+    is : plus link.number (worth nodes firsts heads numbers are reach link.head) ≤ plus (slice_index numbers place) (worth nodes firsts heads numbers are reach (slice_index heads place))
 
   no_more : (steps place : ℕ) → place < steps → IsFrom firsts rank place → IsNoMore place
   no_more zero place few from = absurd (omega (arith, few))
   no_more (suc steps) place few from = elim (trimmed.rest place from) [
-    | inl there ↦ record { link = link_at heads ups place; there = there; is = omega arith }
+    | inl there ↦ record { link = link_at heads numbers place; there = there; is = omega arith }
     | inr replaced ↦
         let before = no_more steps replaced.earlier (omega (arith, few, replaced.before)) replaced.is_from in
         let up = are.upward rank replaced.earlier below replaced.is_from in
-        let over = to_arc nodes firsts heads ups are reach (slice_index heads replaced.earlier) replaced.joining up.1 replaced.joins.is_from in
-        let to_head : worth nodes firsts heads ups are reach (slice_index heads replaced.earlier) ≤ plus (slice_index ups replaced.joining) (worth nodes firsts heads ups are reach (slice_index heads place)) =
-        subst (λ n. worth nodes firsts heads ups are reach (slice_index heads replaced.earlier) ≤ plus (slice_index ups replaced.joining) (worth nodes firsts heads ups are reach n)) replaced.joins.head over in
-        let through = plus_over (slice_index ups replaced.earlier) (slice_index ups replaced.joining) (slice_index ups place) (worth nodes firsts heads ups are reach (slice_index heads replaced.earlier)) (worth nodes firsts heads ups are reach (slice_index heads place)) replaced.shorter to_head in
+        let over = to_arc nodes firsts heads numbers are reach (slice_index heads replaced.earlier) replaced.joining up.1 replaced.joins.is_from in
+        let to_head : worth nodes firsts heads numbers are reach (slice_index heads replaced.earlier) ≤ plus (slice_index numbers replaced.joining) (worth nodes firsts heads numbers are reach (slice_index heads place)) =
+        subst (λ n. worth nodes firsts heads numbers are reach (slice_index heads replaced.earlier) ≤ plus (slice_index numbers replaced.joining) (worth nodes firsts heads numbers are reach n)) replaced.joins.head over in
+        let through = plus_over (slice_index numbers replaced.earlier) (slice_index numbers replaced.joining) (slice_index numbers place) (worth nodes firsts heads numbers are reach (slice_index heads replaced.earlier)) (worth nodes firsts heads numbers are reach (slice_index heads place)) replaced.shorter to_head in
         record { link = before.link; there = before.there; is = omega (arith, before.is, through) }
   ]
 
-  pub least_is_worth : (least : ℕ) → IsLeastBy (worth nodes firsts heads ups are reach) links (reach rank) least → least ≡ worth nodes firsts heads ups are reach rank
+  pub least_is_worth : (least : ℕ) → IsLeastBy (worth nodes firsts heads numbers are reach) links (reach rank) least → least ≡ worth nodes firsts heads numbers are reach rank
   least_is_worth least by = omega (arith, from, to)
     where
-      to : least ≤ worth nodes firsts heads ups are reach rank
-      to = elim (attained nodes firsts heads ups are reach rank below) [
+      to : least ≤ worth nodes firsts heads numbers are reach rank
+      to = elim (attained nodes firsts heads numbers are reach rank below) [
         | inl is ↦ omega (arith, is, by.to_reach)
         | inr found ↦
             let one = no_more (suc found.0) found.0 (omega arith) found.1.is_from in
             omega (arith, found.1.is, one.is, by.to_each one.link one.there)
       ]
 
-      from : worth nodes firsts heads ups are reach rank ≤ least
+      from : worth nodes firsts heads numbers are reach rank ≤ least
       from = elim by.is_one [
-        | inl is ↦ omega (arith, is, to_reach nodes firsts heads ups are reach rank below)
+        | inl is ↦ omega (arith, is, to_reach nodes firsts heads numbers are reach rank below)
         | inr found ↦
             let arc = trimmed.arcs found.0 found.1 in
-            let over = to_arc nodes firsts heads ups are reach rank arc.place below arc.is_from in
-            let same : plus (slice_index ups arc.place) (worth nodes firsts heads ups are reach (slice_index heads arc.place)) ≡ plus found.0.number (worth nodes firsts heads ups are reach found.0.head) =
-            ap (λ n. plus n (worth nodes firsts heads ups are reach (slice_index heads arc.place))) arc.number ∙ ap (λ n. plus found.0.number (worth nodes firsts heads ups are reach n)) arc.head in
+            let over = to_arc nodes firsts heads numbers are reach rank arc.place below arc.is_from in
+            let same : plus (slice_index numbers arc.place) (worth nodes firsts heads numbers are reach (slice_index heads arc.place)) ≡ plus found.0.number (worth nodes firsts heads numbers are reach found.0.head) =
+            ap (λ n. plus n (worth nodes firsts heads numbers are reach (slice_index heads arc.place))) arc.number ∙ ap (λ n. plus found.0.number (worth nodes firsts heads numbers are reach n)) arc.head in
             omega (arith, found.2, over, same)
       ]

@@ -165,7 +165,7 @@ impl Prepared {
         Prepared::over(alloc, network, times, &order)
     }
 
-    /// A preparation of a network over an order of its nodes: any permutation serves. `NoOrder` comes if the list is none, `NotWorth` if
+    /// A preparation of a network over an order of its nodes: any permutation serves. `NoOrder` comes if the list is no order, `NotWorth` if
     /// there are too many upward arcs or triangles for the network's size, `OutOfMemory` if memory was refused.
     pub fn with_order<T: TravelTimes>(
         alloc: Global,

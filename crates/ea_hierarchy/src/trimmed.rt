@@ -40,20 +40,20 @@ pub(crate) struct Trimmed {
 #[inline(always)]
 fn replace(
     upward: &Upward,
-    ups: &[u32],
+    numbers: &[u32],
     rank: u32,
     place: usize,
     joining: usize,
     later: usize,
 ) -> bool
     requires upward { AreUpward upward.now.firsts.items upward.now.heads.items }
-    requires numbers { length ups.now ≡ length upward.now.heads.items }
+    requires numbers { length numbers.now ≡ length upward.now.heads.items }
     requires rank { rank < length upward.now.firsts.items - 1 }
     requires place { IsFrom upward.now.firsts.items rank place }
     requires later { IsFrom upward.now.firsts.items rank later × (place < later) }
     requires joining { slice_index upward.now.firsts.items
         (slice_index upward.now.heads.items place) ≤ joining }
-    ensures { result ≡ true → IsReplaced upward.now.firsts.items upward.now.heads.items ups.now rank
+    ensures { result ≡ true → IsReplaced upward.now.firsts.items upward.now.heads.items numbers.now rank
         later }
 {
     let head = upward.heads[place];
@@ -63,21 +63,21 @@ fn replace(
     if upward.heads[joining] != upward.heads[later] {
         return false;
     }
-    if ups[later] < plus(ups[place], ups[joining]) {
+    if numbers[later] < plus(numbers[place], numbers[joining]) {
         return false;
     }
     true
 }
 
 /// Marks the arcs of a rank after a place that the arc there replaces, together with one from its head.
-fn mark(upward: &Upward, ups: &[u32], rank: u32, place: usize, marks: &mut Vec<bool>)
+fn mark(upward: &Upward, numbers: &[u32], rank: u32, place: usize, marks: &mut Vec<bool>)
     requires upward { AreUpward upward.now.firsts.items upward.now.heads.items }
-    requires numbers { length ups.now ≡ length upward.now.heads.items }
+    requires numbers { length numbers.now ≡ length upward.now.heads.items }
     requires rank { rank < length upward.now.firsts.items - 1 }
     requires place { IsFrom upward.now.firsts.items rank place }
-    requires marked { AreMarked upward.now.firsts.items upward.now.heads.items ups.now rank
+    requires marked { AreMarked upward.now.firsts.items upward.now.heads.items numbers.now rank
         marks.old.items }
-    ensures { AreMarked upward.now.firsts.items upward.now.heads.items ups.now rank
+    ensures { AreMarked upward.now.firsts.items upward.now.heads.items numbers.now rank
         marks.new.items }
 {
     let begin = upward.firsts[rank as usize] as usize;
@@ -90,18 +90,23 @@ fn mark(upward: &Upward, ups: &[u32], rank: u32, place: usize, marks: &mut Vec<b
         while joining < last && upward.heads[joining] < wanted {
             joining += 1;
         }
-        if replace(upward, ups, rank, place, joining, later) {
+        if replace(upward, numbers, rank, place, joining, later) {
             marks[later - begin] = true;
         }
     }
 }
 
 /// The arcs of a rank that no others replace.
-fn links_of(alloc: Global, upward: &Upward, ups: &[u32], rank: u32) -> Result<Vec<Link>, AllocError>
+fn links_of(
+    alloc: Global,
+    upward: &Upward,
+    numbers: &[u32],
+    rank: u32,
+) -> Result<Vec<Link>, AllocError>
     requires upward { AreUpward upward.now.firsts.items upward.now.heads.items }
-    requires numbers { length ups.now ≡ length upward.now.heads.items }
+    requires numbers { length numbers.now ≡ length upward.now.heads.items }
     requires rank { rank < length upward.now.firsts.items - 1 }
-    ensures { IfOk result (λ links. IsTrimmed upward.now.firsts.items upward.now.heads.items ups.now
+    ensures { IfOk result (λ links. IsTrimmed upward.now.firsts.items upward.now.heads.items numbers.now
         rank links.items) }
 {
     let begin = upward.firsts[rank as usize] as usize;
@@ -109,7 +114,7 @@ fn links_of(alloc: Global, upward: &Upward, ups: &[u32], rank: u32) -> Result<Ve
     let mut marks = vec![in alloc; false; end - begin]?;
     for place in begin..end {
         if !marks[place - begin] {
-            mark(upward, ups, rank, place, &mut marks);
+            mark(upward, numbers, rank, place, &mut marks);
         }
     }
     let mut left = 0usize;
@@ -121,7 +126,7 @@ fn links_of(alloc: Global, upward: &Upward, ups: &[u32], rank: u32) -> Result<Ve
         if !marks[place - begin] {
             links.push(Link {
                 head: upward.heads[place],
-                number: ups[place],
+                number: numbers[place],
             })?;
         }
     }
@@ -143,9 +148,9 @@ impl Trimmed {
 
     /// Adds the row of a rank whose first arc is at a place.
     fn add(&mut self, rank: u32, begin: usize, links: Vec<Link>) -> Result<(), AllocError>
-        ensures { (firsts heads ups : List ℕ) → AreTrimmed firsts heads ups self.old.rows.items
-            → IsTrimmed firsts heads ups rank links.items
-            → AreTrimmed firsts heads ups self.new.rows.items }
+        ensures { (firsts heads numbers : List ℕ) → AreTrimmed firsts heads numbers self.old.rows.items
+            → IsTrimmed firsts heads numbers rank links.items
+            → AreTrimmed firsts heads numbers self.new.rows.items }
     {
         let row = self.rows.len();
         if let Some(hint) = self.hints.get_mut(begin / LONG) {
@@ -156,11 +161,11 @@ impl Trimmed {
     }
 
     /// Makes the rows of all ranks with many arcs. If memory is refused, the others have none.
-    pub(crate) fn fill(&mut self, upward: &Upward, ups: &[u32]) -> Result<(), AllocError>
+    pub(crate) fn fill(&mut self, upward: &Upward, numbers: &[u32]) -> Result<(), AllocError>
         requires upward { AreUpward upward.now.firsts.items upward.now.heads.items }
         requires few { length upward.now.firsts.items < 2 ^ 32 }
-        requires numbers { length ups.now ≡ length upward.now.heads.items }
-        ensures { AreTrimmed upward.now.firsts.items upward.now.heads.items ups.now
+        requires numbers { length numbers.now ≡ length upward.now.heads.items }
+        ensures { AreTrimmed upward.now.firsts.items upward.now.heads.items numbers.now
             self.new.rows.items }
     {
         self.left_out = 0;
@@ -171,7 +176,7 @@ impl Trimmed {
             let begin = upward.firsts[rank] as usize;
             let arcs = upward.firsts[rank + 1] as usize - begin;
             if arcs >= LONG {
-                let links = links_of(self.alloc, upward, ups, rank as u32)?;
+                let links = links_of(self.alloc, upward, numbers, rank as u32)?;
                 let more = arcs.saturating_sub(links.len()) as u64;
                 self.left_out = self.left_out.saturating_add(more);
                 self.add(rank as u32, begin, links)?;
@@ -183,8 +188,8 @@ impl Trimmed {
     /// The arcs of a rank that are left; none if it has no row.
     pub(crate) fn links(&self, upward: &Upward, rank: u32) -> Option<&[Link]>
         requires rank { rank < length upward.now.firsts.items - 1 }
-        ensures { (firsts heads ups : List ℕ) → AreTrimmed firsts heads ups self.now.rows.items
-            → IfSome result (λ links. IsTrimmed firsts heads ups rank links.now) }
+        ensures { (firsts heads numbers : List ℕ) → AreTrimmed firsts heads numbers self.now.rows.items
+            → IfSome result (λ links. IsTrimmed firsts heads numbers rank links.now) }
     {
         let hint = *self
             .hints

@@ -3,7 +3,7 @@ ghost use Rattle.ea_hierarchy.specs.Bounds.{IsRoomFor};
 
 use crate::bounds::{first_wrong, plain_sums};
 use crate::random::{number_to, random_network, times_of_all_kinds};
-use ea_hierarchy::{Bounds, Prepared, Unprepared};
+use ea_hierarchy::{Bounds, Prepared, Unprepared, is_order};
 use ea_road::{Arc, Network};
 use ea_travel_times::Timetables;
 use rand_core::{Rng, SeedableRng};
@@ -282,5 +282,54 @@ fn arcs_that_others_replace_are_left_out(rt: HostRuntime) -> Result<(), Fail> {
     // The lowest of 129 nodes has 128 arcs each way, of 0 to 6, and most have two others that are no longer.
     let left_out = left_out_of_clique(rt.alloc(), 129).map_err(|_| "prepared")?;
     assert!(rt; left_out > Some(128) && left_out < Some(256));
+    Ok(())
+}
+
+/// How many nodes are near over a preparation of a shape, in turn; none if it is none.
+fn near_in(alloc: Global, shape: Shape, nodes: u32) -> Result<Option<u32>, Unprepared> {
+    let Some(network) = network_of_shape(alloc, shape, nodes)? else {
+        return Ok(None);
+    };
+    let Some(times) = times_of_all_kinds(alloc)? else {
+        return Ok(None);
+    };
+    if network.top_class() as usize > times.classes() {
+        return Ok(None);
+    }
+    let order = in_turn(alloc, nodes)?;
+    let prepared = Prepared::with_order(alloc, &network, &times, &order)?;
+    Ok(Some(prepared.near()))
+}
+
+#[test]
+fn few_nodes_are_near_if_ways_up_are_short(rt: HostRuntime) -> Result<(), Fail> {
+    let near = near_in(rt.alloc(), Shape::Path, 400).map_err(|_| "prepared")?;
+    assert_eq!(rt; near, Some(512));
+    Ok(())
+}
+
+#[test]
+fn more_nodes_are_near_if_ways_up_are_long(rt: HostRuntime) -> Result<(), Fail> {
+    // 1,000 nodes that are all joined: from the ranks that are looked at there are on average 177,000 arcs to the top.
+    let near = near_in(rt.alloc(), Shape::Clique, 1000).map_err(|_| "prepared")?;
+    assert!(rt; near > Some(600) && near < Some(700));
+    Ok(())
+}
+
+#[test]
+fn lists_that_are_no_order_are_refused(rt: HostRuntime) -> Result<(), Fail> {
+    let alloc = rt.alloc();
+    let mut order = in_turn(alloc, 5)?;
+    assert_eq!(rt; is_order(alloc, 5, &order), Ok(true));
+    assert_eq!(rt; is_order(alloc, 6, &order), Ok(false));
+    assert_eq!(rt; is_order(alloc, 4, &order), Ok(false));
+    order.swap(0, 4);
+    assert_eq!(rt; is_order(alloc, 5, &order), Ok(true));
+    order[2] = 0;
+    assert_eq!(rt; is_order(alloc, 5, &order), Ok(false));
+    order[2] = 5;
+    assert_eq!(rt; is_order(alloc, 5, &order), Ok(false));
+    order[2] = 6;
+    assert_eq!(rt; is_order(alloc, 5, &order), Ok(false));
     Ok(())
 }

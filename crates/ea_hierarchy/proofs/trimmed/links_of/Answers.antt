@@ -12,7 +12,7 @@ pub loop-place-2-preserved : goal.loop-place-2-preserved
 loop-place-2-preserved c =
     let firsts = c.args.upward.now.firsts.items in
     let heads = c.args.upward.now.heads.items in
-    let ups = c.args.ups.now in
+    let numbers = c.args.numbers.now in
     let rank = c.args.rank in
     let place = c.loop-place-2.place in
     let marks = c.loop-place.marks.items in
@@ -23,10 +23,10 @@ loop-place-2-preserved c =
       | then-not-index-2+in_ok-push w ↦
           let links = c.loop-place-2.links.items in
           let head = read_at heads place w.index-then-not-index-2.result.now (inside (length firsts - 1) firsts heads c.requires.upward rank place c.requires.rank is) w.index-then-not-index-2.ensures in
-          let same : c.if-not-index-2.links.items ≡ links ++ link_at heads ups place ∷ [] =
-          ap (λ (v : Vec Link Global). v.items) w.links-is ∙ w.in_ok-push.ensures.items ∙ ap (λ h. links ++ record { head = h; number = slice_index ups place } ∷ []) (sym head) in
-          subst (λ (xs : List Link). AreGathered firsts heads ups rank marks xs (place + 1)) (sym same) (gathered_more firsts heads ups rank marks links place is c.loop-place-2.invariant)
+          let same : c.if-not-index-2.links.items ≡ links ++ link_at heads numbers place ∷ [] =
+          ap (λ (v : Vec Link Global). v.items) w.links-is ∙ w.in_ok-push.ensures.items ∙ ap (λ h. links ++ record { head = h; number = slice_index numbers place } ∷ []) (sym head) in
+          subst (λ (xs : List Link). AreGathered firsts heads numbers rank marks xs (place + 1)) (sym same) (gathered_more firsts heads numbers rank marks links place is c.loop-place-2.invariant)
       | else-not-index-2 w ↦
           let marked : slice_index_or marks (place - slice_index firsts rank) false ≡ true = ap (λ b. slice_index_or marks (place - b) false) begin ∙ sym (get_or_default marks (place - c.index.result.now) c.index-in-loop-place-2.result.now false (omega (arith, begin, end, c.loop-place-2.auto.place, c.loop-place-2-test.true, c.loop-place.invariant.count))) ∙ sym c.index-in-loop-place-2.ensures ∙ w.if-not-index-2.false in
-          subst (λ (v : Vec Link Global). AreGathered firsts heads ups rank marks v.items (place + 1)) (sym w.links-is) (gathered_skips firsts heads ups rank marks c.loop-place-2.links.items place marked c.loop-place-2.invariant)
+          subst (λ (v : Vec Link Global). AreGathered firsts heads numbers rank marks v.items (place + 1)) (sym w.links-is) (gathered_skips firsts heads numbers rank marks c.loop-place-2.links.items place marked c.loop-place-2.invariant)
     ]

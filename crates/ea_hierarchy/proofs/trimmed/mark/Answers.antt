@@ -17,9 +17,9 @@ loop-later-preserved c =
       above = c.loop-joining.invariant;
       marked = elim c.if-replace.branch [
         | then-replace w ↦
-            let more = marked_more firsts heads c.args.ups.now c.args.rank c.loop-later.later c.loop-later.marks.items c.loop-later.invariant.marked is (c.replace.ensures w.if-replace.true) in
-            let same = subst (λ b. AreMarked firsts heads c.args.ups.now c.args.rank (set c.loop-later.marks.items (c.loop-later.later - b) true)) begin more in
-            subst (λ (v : Vec Bool Global). AreMarked firsts heads c.args.ups.now c.args.rank v.items) (sym w.marks-is) same
-        | else-replace w ↦ subst (λ (v : Vec Bool Global). AreMarked firsts heads c.args.ups.now c.args.rank v.items) (sym w.marks-is) c.loop-later.invariant.marked
+            let more = marked_more firsts heads c.args.numbers.now c.args.rank c.loop-later.later c.loop-later.marks.items c.loop-later.invariant.marked is (c.replace.ensures w.if-replace.true) in
+            let same = subst (λ b. AreMarked firsts heads c.args.numbers.now c.args.rank (set c.loop-later.marks.items (c.loop-later.later - b) true)) begin more in
+            subst (λ (v : Vec Bool Global). AreMarked firsts heads c.args.numbers.now c.args.rank v.items) (sym w.marks-is) same
+        | else-replace w ↦ subst (λ (v : Vec Bool Global). AreMarked firsts heads c.args.numbers.now c.args.rank v.items) (sym w.marks-is) c.loop-later.invariant.marked
       ];
     }

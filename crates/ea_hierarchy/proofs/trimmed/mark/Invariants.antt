@@ -12,5 +12,5 @@ decreases-loop-joining l = l.last - l.joining
 abbrev pub invariant-loop-later : goal.invariant-loop-later
 invariant-loop-later l = record {
   above : slice_index l.upward.firsts.items (slice_index l.upward.heads.items l.place) ≤ l.joining;
-  marked : AreMarked l.upward.firsts.items l.upward.heads.items l.ups l.rank l.marks.items;
+  marked : AreMarked l.upward.firsts.items l.upward.heads.items l.numbers l.rank l.marks.items;
 }

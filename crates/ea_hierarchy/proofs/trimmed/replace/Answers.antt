@@ -22,5 +22,5 @@ returns c = λ is.
       before = c.requires.later.1;
       joining = c.args.joining;
       joins = record { is_from = joins; head = one ∙ c.if-index.false ∙ sym other };
-      shorter = omega (arith, c.plus.ensures, c.if-ups-later.false);
+      shorter = omega (arith, c.plus.ensures, c.if-numbers-later.false);
     }

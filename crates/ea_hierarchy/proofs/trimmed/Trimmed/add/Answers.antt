@@ -7,7 +7,7 @@ use Rattle.ea_hierarchy.proofs.trimmed.Trimmed.add.Goals.{in-Some, in_default}
 use Rattle.ea_hierarchy.proofs.trimmed.Trimmed.add.Goals as goal
 
 pub returns : goal.returns
-returns c = λ firsts heads ups are is row there.
+returns c = λ firsts heads numbers are is row there.
     let rows = c.args.self.now.rows.items in
     let here : Row = record { rank = c.args.rank; links = c.args.links } in
     let same : c.match-get_mut.self.rows.items ≡ rows = elim c.match-get_mut.branch [
@@ -17,5 +17,5 @@ returns c = λ firsts heads ups are is row there.
     let grown : c.push.new.self.items ≡ rows ++ here ∷ [] = c.in_ok-push.ensures.items ∙ ap (λ (xs : List Row). xs ++ here ∷ []) same in
     elim (Contains-push_cases rows here row (subst (λ (xs : List Row). Contains xs row) grown there)) [
       | inl was ↦ are row was
-      | inr new ↦ subst (λ (r : Row). IsTrimmed firsts heads ups r.rank r.links.items) new is
+      | inr new ↦ subst (λ (r : Row). IsTrimmed firsts heads numbers r.rank r.links.items) new is
     ]

@@ -8,10 +8,10 @@ pub loop-rank-preserved : goal.loop-rank-preserved
 loop-rank-preserved c =
     let firsts = c.args.upward.now.firsts.items in
     let heads = c.args.upward.now.heads.items in
-    let ups = c.args.ups.now in
+    let numbers = c.args.numbers.now in
     elim c.if-arcs-ge-LONG.branch [
       | then-arcs-ge-LONG+in_ok-links+in_ok-add w ↦
-          subst (λ (t : Trimmed). AreTrimmed firsts heads ups t.rows.items) (sym w.self-is) (w.in_ok-add.ensures firsts heads ups c.loop-rank.invariant w.in_ok-links.ensures)
+          subst (λ (t : Trimmed). AreTrimmed firsts heads numbers t.rows.items) (sym w.self-is) (w.in_ok-add.ensures firsts heads numbers c.loop-rank.invariant w.in_ok-links.ensures)
       | else-arcs-ge-LONG w ↦
-          subst (λ (t : Trimmed). AreTrimmed firsts heads ups t.rows.items) (sym w.self-is) c.loop-rank.invariant
+          subst (λ (t : Trimmed). AreTrimmed firsts heads numbers t.rows.items) (sym w.self-is) c.loop-rank.invariant
     ]
