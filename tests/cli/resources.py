@@ -1,6 +1,8 @@
 """What a run takes: memory beside the size of its text, calls of read and write, what is made ahead of a
 slow reader, and how processor time grows with a size. Times are compared between two sizes in one run, with
 a margin of three, so no clock of a machine decides."""
+import contextlib
+import glob
 import os
 import random
 import resource
@@ -154,12 +156,37 @@ def alone(program, folder):
     yield "resources: one worker without statistics is the search of one thread", 1.5 * one <= counted or (one, counted), True
 
 
+def thread_seconds(program, words, folder):
+    """The seconds of each thread of a run that ends well in its own code, not in the system, as they were last seen."""
+    seen = {}
+    with subprocess.Popen([program, *words.split()], cwd=folder, stdin=subprocess.DEVNULL, stdout=subprocess.DEVNULL) as run:
+        while run.poll() is None:
+            for task in glob.glob(f"/proc/{run.pid}/task/*/stat"):
+                with contextlib.suppress(OSError), open(task, encoding="ascii") as file:
+                    front, _, rest = file.read().rpartition(")")
+                    seen[int(front.split()[0])] = int(rest.split()[11]) / os.sysconf("SC_CLK_TCK")
+            time.sleep(0.005)
+    if run.returncode:
+        raise RuntimeError(f"{words}: {run.returncode}")
+    return sorted(seen.values(), reverse=True)
+
+
 def made_once(program, folder):
-    """Reports made ahead by sixteen threads beside those of one: no report is made by all of them."""
-    write(folder, "hundred.ss", ["p aux sp ss 100\n", *[f"s {at}\n" for at in range(1, 101)]])
+    """Reports made ahead by several threads beside those of one: none is made twice, and no thread waits for what another makes: each
+    makes its share, the one that sends them too."""
+    write(folder, "many-ahead.ss", ["p aux sp ss 800\n", *[f"s {at}\n" for at in range(1, 801)]])
     write_path(folder, "middle.gr", 20_000)
-    one, many = (seconds(program, f"run middle.gr hundred.ss --at-once {at_once}", folder) for at_once in (1, 16))
-    yield grows("resources: a hundred reports by sixteen threads beside one", one, many, 3)
+    one = seconds(program, "run middle.gr many-ahead.ss --at-once 1", folder)
+    for at_once in (2, 4, 16):
+        words = f"run middle.gr many-ahead.ss --at-once {at_once}"
+        yield grows(f"resources: {words}, all threads beside one", one, seconds(program, words, folder), 1.7)
+        for _ in range(3):
+            # Those that read the network have nothing to share here.
+            shares = thread_seconds(program, words, folder)[:at_once]
+            are_even = len(shares) == at_once and shares[-1] * 3 * at_once >= sum(shares)
+            if are_even:
+                break
+        yield f"resources: {words}, each thread makes its share", are_even or shares, True
 
 
 def near_problems(program, folder):
@@ -231,10 +258,30 @@ def layouts(program, folder):
     for name, is_laid_out in (("rows", False), ("random", True)):
         one, many = (peak(program, f"run {name}.gr {sources}.ss --at-once 1", folder) for sources in ("one", "sixteen"))
         yield f"resources: a grid numbered {name}: laid out for sixteen problems", (many > 1.2 * one) == is_laid_out or (one, many), True
+    # Three problems for each thread are enough, two aren't.
+    for at_once, is_laid_out in ((5, True), (6, False), (16, False)):
+        rows, scattered = (min(peak(program, f"run {name}.gr sixteen.ss --at-once {at_once}", folder) for _ in range(3)) for name in ("rows", "random"))
+        yield f"resources: a grid numbered at random, sixteen problems, {at_once} at once: laid out", (scattered > 1.25 * rows) == is_laid_out or (rows, scattered), True
+
+
+def preparations(program, folder):
+    """Pairs on a grid of 40,000 nodes: hundreds of them are worth a preparation if one thread searches them, forty aren't, nor hundreds that
+    eight threads share. The upward arcs show in the memory."""
+    side, rng = 200, random.Random(11)
+    nodes = side * side
+    pairs = [(at, at + step) for at in range(nodes) for step in ([1] if at % side < side - 1 else []) + ([side] if at < side * (side - 1) else [])]
+    arcs = (f"a {tail + 1} {head + 1} {1 + at % 97}\n" for at, pair in enumerate(pairs) for tail, head in (pair, pair[::-1]))
+    write(folder, "prepared.gr", [f"p sp {nodes} {2 * len(pairs)}\n", *arcs])
+    for count in (40, 400):
+        write(folder, f"{count}.p2p", [f"p aux sp p2p {count}\n", *[f"q {rng.randint(1, nodes)} {rng.randint(1, nodes)}\n" for _ in range(count)]])
+    for count, at_once, is_prepared in ((40, 1, False), (400, 1, True), (400, 8, False)):
+        words = f"pairs prepared.gr {count}.p2p --at-once {at_once}"
+        chosen, without = (peak(program, f"{words}{option}", folder) for option in ("", " --prepare no"))
+        yield f"resources: {words}: prepared", (chosen > 1.5 * without) == is_prepared or (chosen, without), True
 
 
 def results(program):
     """Each measure with whether it holds, or its figures, and True."""
     with tempfile.TemporaryDirectory(prefix="resources-") as folder:
-        for part in (network, directions, slow_reader, after_a_fault, made_once, long_walks, shared_walks, alone, near_problems, long_lines, many_steps, hard_shapes, layouts):
+        for part in (network, directions, slow_reader, after_a_fault, made_once, long_walks, shared_walks, alone, near_problems, long_lines, many_steps, hard_shapes, layouts, preparations):
             yield from part(program, folder)
