@@ -1,6 +1,7 @@
 -- Labels that were led to asked nodes, and links over them, make an answer that is right at these nodes.
 use Rattle.std.proofs.Common.{◌≡◌, ◌≢◌, ◌==◌, ℕ, ◌<◌, Bool, true, false, Some, None, List, length, Contains, refl, sym, subst, ◌∙◌, inl, inr, arith}
-use Rattle.std.specs.Prelude.{All, if◌then◌else◌, slice_index}
+use Rattle.std.specs.Prelude.{All, IfOk, Ok, Err, Result, if◌then◌else◌, slice_index}
+use Rattle.std.specs.declared.alloc.AllocError.{AllocError}
 use Rattle.std.proofs.lemmas.List.{get_or_default}
 use Rattle.std.proofs.lemmas.List.Elements.{All-contains}
 use Rattle.ea_road.specs.declared.TheConstants.{NONE}
@@ -13,13 +14,14 @@ use Rattle.ea_search.specs.declared.link.Link.{Link}
 use Rattle.ea_search.specs.declared.link.TheConstants.{NO_LEVEL}
 use Rattle.ea_search.specs.Answers.{Answered, HasArrivals, IsAnswer}
 use Rattle.ea_search.specs.Links.{AreLinks, link, linked_walk}
+use Rattle.ea_search.specs.Listings.{Searched}
 use Rattle.ea_search.specs.Underway.{bound_of}
 use Rattle.ea_search.proofs.Entries.{bound_of_label}
 use Rattle.ea_goal.proofs.Walks.{chain_to_target}
 use Rattle.ea_paths.specs.Stored.{IsStoredAnswer}
 use Rattle.ea_paths.proofs.Answered.{followable}
 use Rattle.ea_paths.proofs.LedAnswers.{led_has_arrivals, led_is_answer}
-use Rattle.ea_asked.specs.Asked.{HasArrivalsAt, IsAnswerAt}
+use Rattle.ea_asked.specs.Asked.{HasArrivalsAt, HasFoundAsked, IsAnswerAt}
 use Rattle.ea_asked.specs.Seeking.{AreLedTo}
 use Rattle.ea_asked.specs.Stores.{Shows}
 
@@ -39,6 +41,31 @@ module _ (roads : Roads) (answers : ℕ → ℕ → ℕ → ℕ → Type 0) (que
     canonical = λ node walk is_node there. is.canonical node walk is_node (are_asked node there);
     attains = λ node time walk is_node there. is.attains node time walk is_node (are_asked node there);
   }
+
+-- what is right at some nodes is right at fewer of them
+module _ (roads : Roads) (answers : ℕ → ℕ → ℕ → ℕ → Type 0) (query : Asking) (some fewer : ℕ → Type 0) (are_some : (node : ℕ) → fewer node → some node) where
+  fewer_arrivals : (answer : Answered) → HasArrivalsAt roads answers query some answer → HasArrivalsAt roads answers query fewer answer
+  fewer_arrivals answer has = record {
+    nodes = has.nodes;
+    target = has.target;
+    least = λ node is_node there. has.least node is_node (are_some node there);
+  }
+
+  fewer_answers : (answer : Answered) → IsAnswerAt roads answers query some answer → IsAnswerAt roads answers query fewer answer
+  fewer_answers answer is = record {
+    arrivals = fewer_arrivals answer is.arrivals;
+    walks = is.walks;
+    canonical = λ node walk is_node there. is.canonical node walk is_node (are_some node there);
+    attains = λ node time walk is_node there. is.attains node time walk is_node (are_some node there);
+  }
+
+  pub fewer_found : (walks : Bool) (result : Result Searched AllocError) → IfOk result (HasFoundAsked roads answers query some walks) → IfOk result (HasFoundAsked roads answers query fewer walks)
+  fewer_found walks (Ok search) found = record {
+    arrivals = fewer_arrivals search.answer found.arrivals;
+    answer = λ on. fewer_answers search.answer (found.answer on);
+    room = found.room;
+  }
+  fewer_found walks (Err refused) found = tt
 
 -- all nodes are asked
 pub all_asked : (query : Asking) → query.target ≡ None → (node : ℕ) → IsAsked query node

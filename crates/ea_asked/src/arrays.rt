@@ -1,11 +1,11 @@
 //! The arrays on which a search for some nodes runs.
-ghost use Rattle.std.specs.Prelude.{◌≡◌, All, Bool, length, replicate, true};
+ghost use Rattle.std.specs.Prelude.{◌≡◌, All, length, replicate, true};
 ghost use Rattle.ea_road.specs.Labels.{label_of};
 ghost use Rattle.ea_road.specs.Queries.{IsProblem};
 ghost use Rattle.ea_road.specs.Roads.{IsNode};
 ghost use Rattle.ea_road.specs.declared.TheConstants.{NONE};
-ghost use Rattle.ea_search.specs.Listings.{AreLabelsListed, IsListed, nothing};
-ghost use Rattle.ea_asked.specs.Blank.{IsBlank};
+ghost use Rattle.ea_search.specs.Listings.{AreLabelsListed, IsListed};
+ghost use Rattle.ea_asked.specs.Blank.{NoneIsShown, WritesTable};
 ghost use Rattle.ea_asked.specs.Seeking.{AreLedTo};
 ghost use Rattle.ea_asked.specs.Stores.{Shows};
 
@@ -44,12 +44,9 @@ impl Arrays {
         requires problem { IsProblem network.now (T.classes times.now) query.now }
         requires asked { All (IsNode network.now.nodes) asked.now }
         requires table { self.table.items ≡ replicate network.now.nodes NONE }
-        ensures count { length result.0.table.items ≡ network.now.nodes }
-        ensures listed { AreLabelsListed result.0.table.items (IsListed result.0.listed) }
+        ensures writes { WritesTable network.now.nodes self result.0 }
         ensures led { result.1 ≡ true → AreLedTo network.now (T.answers times.now)
             query.now.sources asked.now (label_of result.0.table.items) }
-        ensures blank { (walks : Bool) → IsBlank network.now.nodes walks self
-            → IsBlank network.now.nodes walks result.0 }
     {
         network.keeps_limits();
         let Arrays {
@@ -90,8 +87,7 @@ impl Arrays {
 /// Gives asked nodes the labels that they have in a table, on reset labels.
 pub(crate) fn show(table: &[u64], asked: &[u32], labels: &mut Vec<u64>, shown: &mut Listed)
     requires asked { All (IsNode (length table.now)) asked.now }
-    requires labels { labels.old.items ≡ replicate (length table.now) NONE }
-    requires shown { shown.old ≡ nothing }
+    requires none { NoneIsShown (length table.now) labels.old.items shown.old }
     ensures shows { Shows table.now asked.now (length asked.now) labels.new.items }
     ensures listed { AreLabelsListed labels.new.items (IsListed shown.new) }
 {

@@ -1,20 +1,17 @@
 //! Searches for some nodes, one after another on the same arrays.
-ghost use Rattle.std.specs.Prelude.{◌≡◌, All, Contains, None, IfOk, false, length, replicate, true};
-ghost use Rattle.ea_road.specs.Queries.{IsProblem};
+ghost use Rattle.std.specs.Prelude.{◌≡◌, Contains, None, IfOk, false, length, replicate, true};
+ghost use Rattle.ea_road.specs.Queries.{IsAsked};
 ghost use Rattle.ea_road.specs.Labels.{label_of};
-ghost use Rattle.ea_road.specs.Roads.{IsNode};
 ghost use Rattle.ea_road.specs.declared.TheConstants.{NONE};
-ghost use Rattle.ea_search.specs.Answers.{HasArrivals, IsAnswer};
-ghost use Rattle.ea_search.specs.Listings.{AreLabelsListed, IsListed};
-ghost use Rattle.ea_asked.specs.Asked.{HasArrivalsAt, IsAnswerAt};
-ghost use Rattle.ea_asked.specs.Blank.{IsBlank};
+ghost use Rattle.ea_paths.specs.Searches.{AsksAll, IsUnlinked};
+ghost use Rattle.ea_asked.specs.Asked.{CanFindAsked, HasFoundAsked, IsReservedFor};
+ghost use Rattle.ea_asked.specs.Blank.{CanAnswer, CanShow, IsBlank};
 ghost use Rattle.ea_asked.specs.Seeking.{AreLedTo};
 ghost use Rattle.ea_asked.specs.Stores.{Shows, room};
 
 use crate::arrays::{Arrays, show};
 use crate::frontier::Frontier;
-use crate::link_search::link_all;
-use ea_paths::{Answer, arrivals_alone, solve_alone};
+use ea_paths::{Answer, arrivals_alone, link_all, solve_alone};
 use ea_road::{NONE, Network, Query};
 use ea_search::{Link, Listed, NO_LINK, Waiting};
 use ea_travel_times::TravelTimes;
@@ -58,14 +55,9 @@ fn room_for(nodes: u32, walks: bool) -> u32
 
 /// The search with the labels of its arrays at the asked nodes as an answer without walks.
 fn unlinked(arrays: Arrays, nodes: u32, asked: &[u32]) -> AskedSearch
-    requires blank { IsBlank nodes false arrays }
-    requires count { length arrays.table.items ≡ nodes }
-    requires listed { AreLabelsListed arrays.table.items (IsListed arrays.listed) }
-    requires asked { All (IsNode nodes) asked.now }
+    requires { CanShow nodes false asked.now arrays }
     ensures shows { Shows arrays.table.items asked.now (length asked.now) result.answer.labels }
-    ensures of { (result.answer.nodes ≡ nodes) × (result.answer.target ≡ None) }
-    ensures none { result.answer.walks ≡ false }
-    ensures room { (result.nodes ≡ nodes) × (result.walks ≡ false) }
+    ensures unlinked { IsUnlinked nodes None false result.answer.labels result }
 {
     let Arrays {
         table,
@@ -97,17 +89,12 @@ fn linked<T: TravelTimes>(
     query: &Query,
     asked: &[u32],
 ) -> AskedSearch
-    requires problem { IsProblem network.now (T.classes times.now) query.now }
-    requires all { query.now.target ≡ None }
-    requires blank { IsBlank network.now.nodes true arrays }
-    requires count { length arrays.table.items ≡ network.now.nodes }
-    requires listed { AreLabelsListed arrays.table.items (IsListed arrays.listed) }
-    requires asked { All (IsNode network.now.nodes) asked.now }
+    requires asks { AsksAll network.now (T.classes times.now) query.now }
+    requires show { CanShow network.now.nodes true asked.now arrays }
     requires led { AreLedTo network.now (T.answers times.now) query.now.sources asked.now
         (label_of arrays.table.items) }
-    ensures answer { IsAnswerAt network.now (T.answers times.now) query.now (Contains asked.now)
-        result.answer }
-    ensures room { (result.nodes ≡ network.now.nodes) × (result.walks ≡ true) }
+    ensures { HasFoundAsked network.now (T.answers times.now) query.now (Contains asked.now)
+        true result }
 {
     let Arrays {
         table,
@@ -134,11 +121,8 @@ fn linked<T: TravelTimes>(
 
 /// The search with an answer without walks that is right at all nodes. Its links are of no use.
 fn with_labels(arrays: Arrays, answer: Answer) -> AskedSearch
-    requires blank { IsBlank answer.nodes false arrays }
-    requires count { length arrays.table.items ≡ answer.nodes }
-    ensures labels { result.answer.labels ≡ answer.labels }
-    ensures of { (result.answer.nodes ≡ answer.nodes) × (result.answer.target ≡ None) }
-    ensures room { (result.nodes ≡ answer.nodes) × (result.walks ≡ false) }
+    requires { CanAnswer answer.nodes false arrays }
+    ensures { IsUnlinked answer.nodes None false answer.labels result }
 {
     let nodes = answer.nodes();
     let (labels, _) = answer.into_arrays();
@@ -166,8 +150,7 @@ fn with_labels(arrays: Arrays, answer: Answer) -> AskedSearch
 
 /// The search with an answer with walks that is right at all nodes.
 fn with_answer(arrays: Arrays, answer: Answer) -> AskedSearch
-    requires blank { IsBlank answer.nodes true arrays }
-    requires count { length arrays.table.items ≡ answer.nodes }
+    requires can { CanAnswer answer.nodes true arrays }
     requires walks { answer.walks ≡ true }
     ensures { result ≡ record { nodes = answer.nodes; walks = true; answer = answer } }
 {
@@ -201,16 +184,10 @@ fn whole<T: TravelTimes>(
     query: &Query,
     walks: bool,
 ) -> Result<AskedSearch, AllocError>
-    requires problem { IsProblem network.now (T.classes times.now) query.now }
-    requires all { query.now.target ≡ None }
-    requires blank { IsBlank network.now.nodes walks arrays }
-    requires count { length arrays.table.items ≡ network.now.nodes }
-    ensures arrivals { IfOk result (λ search.
-        HasArrivals network.now (T.answers times.now) query.now search.answer) }
-    ensures answer { IfOk result (λ search. walks ≡ true
-        → IsAnswer network.now (T.answers times.now) query.now search.answer) }
-    ensures nodes { IfOk result (λ search. search.nodes ≡ network.now.nodes) }
-    ensures walks { IfOk result (λ search. search.walks ≡ walks) }
+    requires asks { AsksAll network.now (T.classes times.now) query.now }
+    requires can { CanAnswer network.now.nodes walks arrays }
+    ensures { IfOk result (HasFoundAsked network.now (T.answers times.now) query.now
+        (IsAsked query.now) walks) }
 {
     if walks {
         let answer = solve_alone(alloc, network, times, query)?;
@@ -224,8 +201,7 @@ fn whole<T: TravelTimes>(
 impl AskedSearch {
     /// Arrays for this number of nodes, with room for walks or without.
     fn with_room(alloc: Global, nodes: u32, walks: bool) -> Result<AskedSearch, AllocError>
-        ensures nodes { IfOk result (λ search. search.nodes ≡ nodes) }
-        ensures walks { IfOk result (λ search. search.walks ≡ walks) }
+        ensures { IfOk result (IsReservedFor nodes walks) }
     {
         let room = room_for(nodes, walks);
         let waiting = Waiting::reserve(alloc, room)?;
@@ -246,8 +222,7 @@ impl AskedSearch {
     /// Arrays for searches in networks of this number of nodes, and for their walks. Fails only if memory is
     /// refused.
     pub fn reserve(alloc: Global, nodes: u32) -> Result<AskedSearch, AllocError>
-        ensures nodes { IfOk result (λ search. search.nodes ≡ nodes) }
-        ensures walks { IfOk result (λ search. search.walks ≡ true) }
+        ensures { IfOk result (IsReservedFor nodes true) }
     {
         AskedSearch::with_room(alloc, nodes, true)
     }
@@ -255,8 +230,7 @@ impl AskedSearch {
     /// Arrays for searches in networks of this number of nodes, without walks. Fails only if memory is
     /// refused.
     pub fn reserve_without_walks(alloc: Global, nodes: u32) -> Result<AskedSearch, AllocError>
-        ensures nodes { IfOk result (λ search. search.nodes ≡ nodes) }
-        ensures walks { IfOk result (λ search. search.walks ≡ false) }
+        ensures { IfOk result (IsReservedFor nodes false) }
     {
         AskedSearch::with_room(alloc, nodes, false)
     }
@@ -309,16 +283,9 @@ impl AskedSearch {
         query: &Query,
         asked: &[u32],
     ) -> Result<AskedSearch, AllocError>
-        requires problem { IsProblem network.now (T.classes times.now) query.now }
-        requires all { query.now.target ≡ None }
-        requires nodes { self.nodes ≡ network.now.nodes }
-        requires asked { All (IsNode network.now.nodes) asked.now }
-        ensures arrivals { IfOk result (λ search. HasArrivalsAt network.now (T.answers times.now)
-            query.now (Contains asked.now) search.answer) }
-        ensures answer { IfOk result (λ search. self.walks ≡ true
-            → IsAnswerAt network.now (T.answers times.now) query.now (Contains asked.now) search.answer) }
-        ensures nodes { IfOk result (λ search. search.nodes ≡ self.nodes) }
-        ensures walks { IfOk result (λ search. search.walks ≡ self.walks) }
+        requires { CanFindAsked network.now (T.classes times.now) query.now asked.now self }
+        ensures { IfOk result (HasFoundAsked network.now (T.answers times.now) query.now
+            (Contains asked.now) self.walks) }
     {
         let walks = self.walks;
         let (arrays, is_found) = self.into_arrays().seek(network, times, query, asked);

@@ -4,7 +4,6 @@
 mod arrays;
 mod asked_search;
 mod frontier;
-mod link_search;
 mod nodes;
 mod passed;
 mod search;

@@ -1,8 +1,7 @@
 //! How far it is known that the asked nodes are settled.
-ghost use Rattle.std.specs.Prelude.{◌<◌, ℕ, All, Contains, IsTrue, length};
+ghost use Rattle.std.specs.Prelude.{◌<◌, ℕ, Contains, IsTrue};
 ghost use Rattle.ea_road.specs.Labels.{label_of};
-ghost use Rattle.ea_road.specs.Roads.{IsNode};
-ghost use Rattle.ea_asked.specs.Seeking.{IsPassed};
+ghost use Rattle.ea_asked.specs.Seeking.{CanPass, IsPassed};
 
 /// The number of the first asked nodes that are known to have labels below a time, and this time. Labels only
 /// fall, so it stays so. Each asked node is passed once, whatever the number of open nodes that are taken.
@@ -22,8 +21,7 @@ impl Passed {
 
     /// Passes the asked nodes whose labels are below a time, up to the first other one.
     pub(crate) fn pass(&mut self, table: &[u64], asked: &[u32], time: u64)
-        requires asked { All (IsNode (length table.now)) asked.now }
-        requires passed { IsPassed table.now asked.now self.old }
+        requires { CanPass table.now asked.now self.old }
         ensures { IsPassed table.now asked.now self.new }
     {
         while self.count < asked.len() {

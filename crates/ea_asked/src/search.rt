@@ -1,14 +1,11 @@
 //! The search: labels fall along arcs from open nodes, those with the least labels first.
-ghost use Rattle.std.specs.Prelude.{◌≡◌, ◌≤◌, ◌<◌, ℕ, All, MatchOption, OnOk, [], length, replicate};
+ghost use Rattle.std.specs.Prelude.{◌≡◌, ◌≤◌, ◌<◌, ℕ, All, MatchOption, length};
 ghost use Rattle.ea_base.specs.declared.limits.TheConstants.{HORIZON};
 ghost use Rattle.ea_road.specs.Labels.{label_of};
-ghost use Rattle.ea_road.specs.Roads.{IsArc, IsNode, top_class};
-ghost use Rattle.ea_road.specs.declared.TheConstants.{NONE};
-ghost use Rattle.ea_search.specs.Links.{AreStarts};
-ghost use Rattle.ea_goal.specs.Frontiers.{AreKeyed, Takes};
-ghost use Rattle.ea_goal.specs.Visits.{AreOpenNodes, KeepsReached};
-ghost use Rattle.ea_asked.specs.Open.{IsOver, met, no_bound};
-ghost use Rattle.ea_asked.specs.Seeking.{AreLedTo, AreSeededFor, EndsFor, FollowsFor, IsPassed, OffersFor, ScansFor, VisitsFor};
+ghost use Rattle.ea_road.specs.Roads.{IsArc, IsNode};
+ghost use Rattle.ea_goal.specs.Frontiers.{Takes};
+ghost use Rattle.ea_asked.specs.Open.{IsOver, met};
+ghost use Rattle.ea_asked.specs.Seeking.{AreLedTo, AreOpened, AreSeededFor, CanPass, CanScan, CanSeek, CanStart, EndsFor, FollowsFor, IsPassed, MakesStep, OffersFor, ScansFor, VisitsFor};
 
 use crate::frontier::{Entry, Frontier};
 use crate::passed::Passed;
@@ -29,11 +26,10 @@ impl Underway {
     /// Offers a node a time: if its label is above it, the label falls and the node is opened. An error comes
     /// only if memory was refused.
     fn offer(&mut self, node: u32, time: u64) -> Result<(), AllocError>
-        requires from_one { 0 < node }
-        requires in_table { node ≤ length self.old.table.labels.items }
+        requires node { IsNode (length self.old.table.labels.items) node }
         requires time { time ≤ HORIZON }
-        ensures reached { KeepsReached self.old.table self.new.table }
-        ensures offers { OnOk result (OffersFor self.old.table.labels.items self.old.frontier
+        ensures { MakesStep self.old.table self.new.table result
+            (OffersFor self.old.table.labels.items self.old.frontier
             self.new.table.labels.items self.new.frontier node time) }
     {
         let slot = node as usize - 1;
@@ -54,13 +50,11 @@ impl Underway {
         arc: Arc,
         departure: u64,
     ) -> Result<(), AllocError>
+        requires can { CanScan network.now (T.classes times.now) self.old.table.labels.items }
         requires arc { (number : ℕ) × IsArc network.now number arc }
-        requires classes { top_class network.now.arcs ≤ T.classes times.now }
         requires departure { departure ≤ HORIZON }
-        requires table { length self.old.table.labels.items ≡ network.now.nodes }
-        ensures reached { KeepsReached self.old.table self.new.table }
-        ensures follows { OnOk result (FollowsFor (T.answers times.now)
-            self.old.table.labels.items self.old.frontier
+        ensures { MakesStep self.old.table self.new.table result
+            (FollowsFor (T.answers times.now) self.old.table.labels.items self.old.frontier
             self.new.table.labels.items self.new.frontier arc departure) }
     {
         network.keeps_limits();
@@ -80,12 +74,11 @@ impl Underway {
         node: u32,
         departure: u64,
     ) -> Result<(), AllocError>
+        requires can { CanScan network.now (T.classes times.now) self.old.table.labels.items }
         requires node { IsNode network.now.nodes node }
-        requires classes { top_class network.now.arcs ≤ T.classes times.now }
         requires departure { departure ≤ HORIZON }
-        requires table { length self.old.table.labels.items ≡ network.now.nodes }
-        ensures reached { KeepsReached self.old.table self.new.table }
-        ensures scans { OnOk result (ScansFor network.now (T.answers times.now)
+        ensures { MakesStep self.old.table self.new.table result
+            (ScansFor network.now (T.answers times.now)
             self.old.table.labels.items self.old.frontier
             self.new.table.labels.items self.new.frontier node departure) }
     {
@@ -105,11 +98,10 @@ impl Underway {
         times: &T,
         entry: Entry,
     ) -> Result<(), AllocError>
+        requires can { CanScan network.now (T.classes times.now) self.old.table.labels.items }
         requires node { IsNode network.now.nodes entry.node }
-        requires classes { top_class network.now.arcs ≤ T.classes times.now }
-        requires table { length self.old.table.labels.items ≡ network.now.nodes }
-        ensures reached { KeepsReached self.old.table self.new.table }
-        ensures visits { OnOk result (VisitsFor network.now (T.answers times.now)
+        ensures { MakesStep self.old.table self.new.table result
+            (VisitsFor network.now (T.answers times.now)
             self.old.table.labels.items self.old.frontier
             self.new.table.labels.items self.new.frontier (met entry)) }
     {
@@ -127,8 +119,7 @@ impl Underway {
 
     /// Takes the open node with the least label; none if the labels of all asked nodes are below it.
     fn next(&mut self, asked: &[u32], passed: &mut Passed) -> Option<Entry>
-        requires asked { All (IsNode (length self.old.table.labels.items)) asked.now }
-        requires passed { IsPassed self.old.table.labels.items asked.now passed.old }
+        requires { CanPass self.old.table.labels.items asked.now passed.old }
         ensures table { self.new.table ≡ self.old.table }
         ensures passed { IsPassed self.new.table.labels.items asked.now passed.new }
         ensures taken { MatchOption result ((self.new.frontier ≡ self.old.frontier)
@@ -150,13 +141,11 @@ impl Underway {
         times: &T,
         asked: &[u32],
     ) -> Result<(), AllocError>
+        requires can { CanScan network.now (T.classes times.now) self.old.table.labels.items }
         requires asked { All (IsNode network.now.nodes) asked.now }
-        requires nodes { AreOpenNodes network.now.nodes self.old.frontier }
-        requires keyed { AreKeyed no_bound self.old.frontier }
-        requires classes { top_class network.now.arcs ≤ T.classes times.now }
-        requires table { length self.old.table.labels.items ≡ network.now.nodes }
-        ensures reached { KeepsReached self.old.table self.new.table }
-        ensures ends { OnOk result (EndsFor network.now (T.answers times.now)
+        requires opened { AreOpened network.now.nodes self.old.frontier }
+        ensures { MakesStep self.old.table self.new.table result
+            (EndsFor network.now (T.answers times.now)
             self.old.table.labels.items self.old.frontier
             self.new.table.labels.items self.new.frontier asked.now) }
     {
@@ -169,11 +158,9 @@ impl Underway {
 
     /// Offers the sources their departures.
     fn begin(&mut self, network: &Network, sources: &[Source]) -> Result<(), AllocError>
-        requires sources { AreStarts network.now.nodes sources.now }
-        requires labels { self.old.table.labels.items ≡ replicate network.now.nodes NONE }
-        requires none { self.old.frontier ≡ [] }
-        ensures reached { KeepsReached self.old.table self.new.table }
-        ensures seeded { OnOk result (AreSeededFor network.now.nodes sources.now
+        requires { CanStart network.now.nodes sources.now self.old }
+        ensures { MakesStep self.old.table self.new.table result
+            (AreSeededFor network.now.nodes sources.now
             self.new.table.labels.items self.new.frontier (length sources.now)) }
     {
         for source in sources {
@@ -190,13 +177,9 @@ impl Underway {
         sources: &[Source],
         asked: &[u32],
     ) -> Result<(), AllocError>
-        requires sources { AreStarts network.now.nodes sources.now }
-        requires asked { All (IsNode network.now.nodes) asked.now }
-        requires classes { top_class network.now.arcs ≤ T.classes times.now }
-        requires labels { self.old.table.labels.items ≡ replicate network.now.nodes NONE }
-        requires none { self.old.frontier ≡ [] }
-        ensures reached { KeepsReached self.old.table self.new.table }
-        ensures led { OnOk result (AreLedTo network.now (T.answers times.now) sources.now asked.now
+        requires { CanSeek network.now (T.classes times.now) sources.now asked.now self.old }
+        ensures { MakesStep self.old.table self.new.table result
+            (AreLedTo network.now (T.answers times.now) sources.now asked.now
             (label_of self.new.table.labels.items)) }
     {
         network.keeps_limits();

@@ -1,10 +1,10 @@
 -- The nodes that a report shows are asked.
-use Rattle.std.proofs.Common.{◌≡◌, ℕ, Bool, List, Contains, subst}
+use Rattle.std.proofs.Common.{◌≡◌, ◌∙◌, ℕ, Bool, List, Contains, subst}
 use Rattle.std.specs.Prelude.{IfOk, Option, Some, None, Result, Ok, Err}
 use Rattle.ea_road.specs.Queries.{Asking, IsAskedBy}
 use Rattle.ea_road.specs.Roads.{Roads}
 use Rattle.ea_search.specs.Answers.{Answered, HasArrivals, IsAnswer}
-use Rattle.ea_asked.specs.Asked.{HasArrivalsAt, IsAnswerAt}
+use Rattle.ea_asked.specs.Asked.{HasArrivalsAt, HasFoundAsked, IsAnswerAt}
 use Rattle.ea_asked.proofs.Answering.{answer_at, arrivals_at}
 use Rattle.ea_load.specs.declared.road.Road.{Road}
 use Rattle.ea_load.specs.Posed.{times_on}
@@ -54,7 +54,13 @@ module _ (roads : Roads) (answers : ℕ → ℕ → ℕ → ℕ → Type 0) (nod
     attains = λ node time walk is_node is. right.attains node time walk is_node (is_chosen node is);
   }
 
--- what four facts of a result say together
-pub of_four : {X E : Type 0} (r : Result X E) (P Q R S All : X → Type 0) → IfOk r P → IfOk r Q → IfOk r R → IfOk r S → ((x : X) → P x → Q x → R x → S x → All x) → IfOk r All
-of_four (Ok x) P Q R S All p q r s all = all x p q r s
-of_four (Err e) P Q R S All p q r s all = tt
+-- so what a search found at the chosen nodes is found for those
+pub found_chosen : {E : Type 0} (road : Road) (nodes : List ℕ) (query : Asking) (all : query.target ≡ None) (on walks : Bool) (same : on ≡ walks) (result : Result Searched E) → IfOk result (HasFoundAsked road.network (times_on road) query (Contains nodes) on) → IfOk result (HasFoundAt (Some nodes) walks road query)
+found_chosen road nodes query all on walks same (Ok search) found = record {
+  solves = record {
+    arrivals = arrivals_chosen road.network (times_on road) nodes query all search.answer found.arrivals;
+    canonical = λ wanted. answer_chosen road.network (times_on road) nodes query all search.answer (found.answer (same ∙ wanted));
+  };
+  ready = (found.room.nodes, found.room.walks ∙ same);
+}
+found_chosen road nodes query all on walks same (Err refused) found = tt

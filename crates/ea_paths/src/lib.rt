@@ -12,6 +12,6 @@ mod search;
 mod ties;
 
 pub use answer::Answer;
-pub use link_search::{find_links, unwind, without_walks};
+pub use link_search::{find_links, link_all, unwind, without_walks};
 pub use one_thread::{arrivals_alone, arrivals_alone_by, solve_alone, solve_alone_by};
 pub use search::Search;

@@ -143,7 +143,7 @@ impl Ahead {
 }
 
 /// Finds the links of nodes, which must be reset. Then no node waits, and no node without a label has a link.
-pub(crate) fn link_all<T: TravelTimes>(
+pub fn link_all<T: TravelTimes>(
     network: &Network,
     times: &T,
     sources: &[Source],

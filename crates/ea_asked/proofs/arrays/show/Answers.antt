@@ -3,8 +3,8 @@ use Rattle.ea_asked.proofs.arrays.show.Goals as goal
 
 pub loop-node-init : goal.loop-node-init
 loop-node-init c = record {
-  shows = shows_none c.args.table.now c.args.asked.now c.args.labels.now.items c.requires.labels;
-  listed = listed_none _ c.args.labels.now.items c.args.shown.now c.requires.labels;
+  shows = shows_none c.args.table.now c.args.asked.now c.args.labels.now.items c.requires.none.unlabelled;
+  listed = listed_none _ c.args.labels.now.items c.args.shown.now c.requires.none.unlabelled;
 }
 
 pub loop-node-preserved : goal.loop-node-preserved

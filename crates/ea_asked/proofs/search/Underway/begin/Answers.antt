@@ -18,7 +18,7 @@ among_at sources place inside = (place, (inside, get_or_default sources place no
 pub loop-source-init : goal.loop-source-init
 loop-source-init c = record {
   reached = reached_none c.args.self.now.table;
-  seeded = λ target from. seeded_none c.args.network.now.nodes c.args.sources.now target no_bound c.args.self.now.table.labels.items c.args.self.now.frontier c.requires.labels c.requires.none;
+  seeded = λ target from. seeded_none c.args.network.now.nodes c.args.sources.now target no_bound c.args.self.now.table.labels.items c.args.self.now.frontier c.requires.labels c.requires.closed;
 }
 
 pub loop-source-preserved : goal.loop-source-preserved
@@ -27,27 +27,28 @@ loop-source-preserved c =
     let place = c.loop-source.source-index in
     record {
       reached = reached_then c.args.self.now.table c.loop-source.self.table c.offer.new.self.table so_far.reached c.offer.ensures.reached;
-      seeded = λ target from. seeded_more c.args.network.now.nodes c.args.sources.now target no_bound c.loop-source.self.table.labels.items c.offer.new.self.table.labels.items c.loop-source.self.frontier c.offer.new.self.frontier place none c.loop-source-test.true from c.requires.sources (c.in_ok-offer.ensures.offers target from) (so_far.seeded target from);
+      seeded = λ target from. seeded_more c.args.network.now.nodes c.args.sources.now target no_bound c.loop-source.self.table.labels.items c.offer.new.self.table.labels.items c.loop-source.self.frontier c.offer.new.self.frontier place none c.loop-source-test.true from c.requires.starts (c.in_ok-offer.ensures.done target from) (so_far.seeded target from);
     }
 
-pub offer-requires-clause-from_one : goal.offer-requires-clause-from_one
-offer-requires-clause-from_one c =
-    let start = c.requires.sources _ (among_at c.args.sources.now c.loop-source.source-index c.loop-source-test.true) in
-    start.0.from_one
-
-pub offer-requires-clause-in_table : goal.offer-requires-clause-in_table
-offer-requires-clause-in_table c =
-    let start = c.requires.sources _ (among_at c.args.sources.now c.loop-source.source-index c.loop-source-test.true) in
+pub offer-requires-clause-node : goal.offer-requires-clause-node
+offer-requires-clause-node c =
+    let start = c.requires.starts _ (among_at c.args.sources.now c.loop-source.source-index c.loop-source-test.true) in
     let count = c.loop-source.invariant.reached.count in
     let nodes = ap (λ (xs : List ℕ). length xs) c.requires.labels ∙ length-replicate c.args.network.now.nodes NONE in
-    omega (arith, start.0.to_last, count, nodes)
+    record {
+      from_one = start.0.from_one;
+      to_last = omega (arith, start.0.to_last, count, nodes);
+    }
 
 pub offer-requires-clause-time : goal.offer-requires-clause-time
 offer-requires-clause-time c =
-    let start = c.requires.sources _ (among_at c.args.sources.now c.loop-source.source-index c.loop-source-test.true) in
+    let start = c.requires.starts _ (among_at c.args.sources.now c.loop-source.source-index c.loop-source-test.true) in
     start.1
 
-pub returns-clause-seeded : goal.returns-clause-seeded
-returns-clause-seeded c = λ target from.
+pub returns : goal.returns
+returns c =
     let all : c.loop-source.source-index ≡ length c.args.sources.now = omega (arith, c.loop-source-test.false, c.loop-source.auto.source-index-end) in
-    subst (λ k. AreSeeded c.args.network.now.nodes c.args.sources.now target no_bound c.loop-source.self.table.labels.items c.loop-source.self.frontier k) all (c.loop-source.invariant.seeded target from)
+    record {
+      reached = c.loop-source.invariant.reached;
+      done = λ target from. subst (λ k. AreSeeded c.args.network.now.nodes c.args.sources.now target no_bound c.loop-source.self.table.labels.items c.loop-source.self.frontier k) all (c.loop-source.invariant.seeded target from);
+    }

@@ -1,4 +1,4 @@
-use Rattle.std.proofs.Common.{arith, subst, ℕ, List, get_or}
+use Rattle.std.proofs.Common.{arith, rules, subst, ℕ, List, get_or}
 use Rattle.std.proofs.lemmas.Option.{slice_get-get_or}
 use Rattle.ea_road.specs.Roads.{AreSideBySide, leaving, with_tail}
 use Rattle.ea_road.specs.declared.arc.Arc.{Arc}
@@ -36,18 +36,24 @@ loop-place-preserved g c =
     let found = slice_get-get_or arcs place none c.loop-place-test.true in
     let is = arc_beside roads c.args.node c.leaving.result.numbers.now arcs place none c.leaving.ensures.arcs c.loop-place-test.true in
     let follows : FollowsFor answers c.loop-place.self.table.labels.items c.loop-place.self.frontier c.follow.new.self.table.labels.items c.follow.new.self.frontier (with_tail here c.args.node) c.args.departure =
-    subst (λ (a : Arc). FollowsFor answers c.loop-place.self.table.labels.items c.loop-place.self.frontier c.follow.new.self.table.labels.items c.follow.new.self.frontier a c.args.departure) c.with_tail-arc.ensures c.in_ok-follow.ensures.follows in
+    subst (λ (a : Arc). FollowsFor answers c.loop-place.self.table.labels.items c.loop-place.self.frontier c.follow.new.self.table.labels.items c.follow.new.self.frontier a c.args.departure) c.with_tail-arc.ensures c.in_ok-follow.ensures.done in
     record {
       reached = reached_then c.args.self.now.table c.loop-place.self.table c.follow.new.self.table so_far.reached c.follow.ensures.reached;
       scans = λ target from. scans_more roads c.keeps_limits.ensures answers target no_bound from c.args.node c.args.departure arcs beside c.args.self.now.table.labels.items c.loop-place.self.table.labels.items c.follow.new.self.table.labels.items c.args.self.now.frontier c.loop-place.self.frontier c.follow.new.self.frontier place (get_or c.leaving.result.numbers.now place 0) here found is (so_far.scans target from) (follows target from);
     }
 
-pub returns-clause-scans : goal.returns-clause-scans
-returns-clause-scans g c =
+pub returns : goal.returns
+returns g c =
     let roads = c.args.network.now in
     let arcs = c.leaving.result.arcs.now in
     let beside : AreSideBySide roads c.args.node (leaving roads c.args.node) arcs = subst (λ (xs : List ℕ). AreSideBySide roads c.args.node xs arcs) c.leaving.ensures.numbers c.leaving.ensures.arcs in
-    λ target from. scans_all roads c.keeps_limits.ensures (g.T.TravelTimes.answers c.args.times.now) target no_bound from c.args.node c.args.departure arcs beside c.args.self.now.table.labels.items c.loop-place.self.table.labels.items c.args.self.now.frontier c.loop-place.self.frontier c.loop-place.place (omega arith) (c.loop-place.invariant.scans target from)
+    record {
+      reached = c.loop-place.invariant.reached;
+      done = λ target from. scans_all roads c.keeps_limits.ensures (g.T.TravelTimes.answers c.args.times.now) target no_bound from c.args.node c.args.departure arcs beside c.args.self.now.table.labels.items c.loop-place.self.table.labels.items c.args.self.now.frontier c.loop-place.self.frontier c.loop-place.place (omega arith) (c.loop-place.invariant.scans target from);
+    }
 
-pub returns-in_err-follow-clause-reached : goal.returns-in_err-follow-clause-reached
-returns-in_err-follow-clause-reached g c = reached_then c.args.self.now.table c.loop-place.self.table c.follow.new.self.table c.loop-place.invariant.reached c.follow.ensures.reached
+pub returns-in_err-follow : goal.returns-in_err-follow
+returns-in_err-follow g c = record {
+  reached = reached_then c.args.self.now.table c.loop-place.self.table c.follow.new.self.table c.loop-place.invariant.reached c.follow.ensures.reached;
+  done = search rules;
+}
