@@ -1,16 +1,33 @@
 -- Bytes that are taken from a device, block by block.
-use Rattle.std.specs.Prelude.{◌≡◌, ◌⊎◌, ℕ, ◌+◌, ◌<◌, ◌≤◌, ◌^◌, ◌-◌, List, ◌++◌, length, IfSome, vec_len}
-use Rattle.std.specs.Io.KnownBytes.{Consumes}
+use Rattle.std.specs.Prelude.{◌≡◌, ◌≢◌, ◌⊎◌, ℕ, ◌+◌, ◌<◌, ◌≤◌, ◌^◌, ◌-◌, List, ◌++◌, length, IfSome, vec_len}
+use Rattle.std.specs.Io.KnownBytes.{Consumes, IsAtEnd}
 use Rattle.ea_base.specs.declared.limits.TheConstants.{MOST_INTERRUPTIONS}
-use Rattle.ea_bytes.specs.Device.{Seen, TakesAtMost}
-use Rattle.ea_blocks.specs.Outcome.{FaultCounts}
+use Rattle.ea_bytes.specs.Device.{AreAlike, Seen, TakesAtMost}
+use Rattle.ea_blocks.specs.Outcome.{FaultCounts, failures_with, interruptions_with}
 use Rattle.ea_blocks.specs.declared.blocks.Blocks.{Blocks}
+use Rattle.ea_blocks.specs.declared.blocks.Piece.{Piece}
+use Rattle.ea_blocks.specs.declared.blocks.Piece.TheVariants.{End, Some}
 use Rattle.ea_blocks.specs.declared.blocks.ReadFault.{ReadFault}
 use Rattle.ea_blocks.specs.declared.blocks.ReadFault.TheVariants.{TooLarge}
 
 -- Bytes grow by those that were taken from a device.
 abbrev pub Takes : Seen → Seen → List ℕ → List ℕ → Type 0
 Takes old new before after = (got : List ℕ) × (after ≡ before ++ got) × Consumes old.bytes new.bytes got
+
+-- The bytes of one read, with this outcome, were appended to those before.
+pub record AppendsRead (old new : Seen) (before after : List ℕ) (read : Piece) : Type 0 where
+  pub more : Takes old new before after
+  pub some : read ≡ Some → length before < length after
+  pub end : read ≡ End → IsAtEnd new.bytes
+  pub kept : read ≢ Some → after ≡ before
+  pub failed : new.failed ≡ failures_with read old.failed
+  pub interrupted : new.interrupted ≡ interruptions_with read old.interrupted
+
+-- Memory for the bytes of one read, of at most this length, was refused, and they are lost.
+pub record LosesRead (most : ℕ) (old new : Seen) (before after : List ℕ) : Type 0 where
+  pub kept : after ≡ before
+  pub taken : TakesAtMost most old new
+  pub quiet : AreAlike old new
 
 -- There is room for one read.
 abbrev pub HasRoom : Blocks → Type 0

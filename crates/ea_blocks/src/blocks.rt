@@ -1,10 +1,10 @@
 //! Reading all bytes of a device.
-ghost use Rattle.std.specs.Prelude.{◌≡◌, ◌<◌, ◌≤◌, ◌^◌, ◌+◌, IfOk, ◌≢◌, List, [], ℕ, Option, IfErr, IfSome, IsOkAnd, OnErr, OnOk, vec_len, IsErrOf, length, true, false};
-ghost use Rattle.std.specs.Io.KnownBytes.{Consumes, IsAtEnd};
-ghost use Rattle.ea_bytes.specs.Device.{AreAlike, HasGivenUp, Seen, TakesAtMost};
+ghost use Rattle.std.specs.Prelude.{◌≡◌, ◌<◌, ◌≤◌, ◌+◌, IfOk, [], IfSome, OnErr, OnOk, vec_len, IsErrOf, length, false};
+ghost use Rattle.std.specs.Io.KnownBytes.{IsAtEnd};
+ghost use Rattle.ea_bytes.specs.Device.{HasGivenUp, Seen, TakesAtMost};
 ghost use Rattle.ea_blocks.specs.Outcome.{CountsAfter, fault_name, fault_number};
-ghost use Rattle.ea_blocks.specs.Outcome.{failures_with, interruptions_with};
-ghost use Rattle.ea_blocks.specs.Taking.{GoesOnTaking, HasRoom, IsTakenBy, IsTakenOn, StopsTaking, Takes};
+ghost use Rattle.ea_blocks.specs.Streams.{IsFilled};
+ghost use Rattle.ea_blocks.specs.Taking.{AppendsRead, HasRoom, IsTakenBy, IsTakenOn, LosesRead};
 ghost use Rattle.ea_blocks.specs.declared.blocks.ReadFault.TheVariants.{OutOfMemory};
 
 use ea_base::MOST_INTERRUPTIONS;
@@ -96,24 +96,11 @@ fn read_piece<R: ByteIn>(
     bytes: &mut Vec<u8>,
 ) -> Result<Piece, AllocError>
     requires { 0 < length piece.old }
-    // What was taken before and what is taken now together stay what the device had.
-    ensures taken { IfOk result (λ _. (first : Option (List ℕ)) →
-        Consumes first (R.seen reader.old).bytes bytes.old.items →
-        Consumes first (R.seen reader.new).bytes bytes.new.items) }
-    ensures more { IfOk result (λ _. Takes (R.seen reader.old) (R.seen reader.new)
+    ensures read { IfOk result (AppendsRead (R.seen reader.old) (R.seen reader.new)
         bytes.old.items bytes.new.items) }
-    ensures some { IsOkAnd result (λ p. p ≡ Piece.Some)
-        → length bytes.old.items < length bytes.new.items }
     ensures most { length bytes.new.items ≤ length bytes.old.items + length piece.old }
-    ensures end { IsOkAnd result (λ p. p ≡ Piece.End) → IsAtEnd (R.seen reader.new).bytes }
-    ensures kept { IsOkAnd result (λ p. p ≢ Piece.Some) → bytes.new.items ≡ bytes.old.items }
-    ensures refused { OnErr result ((bytes.new.items ≡ bytes.old.items)
-        × TakesAtMost (length piece.old) (R.seen reader.old) (R.seen reader.new)) }
-    ensures failed { IfOk result
-        (λ p. (R.seen reader.new).failed ≡ failures_with p (R.seen reader.old).failed) }
-    ensures interrupted { IfOk result (λ p.
-        (R.seen reader.new).interrupted ≡ interruptions_with p (R.seen reader.old).interrupted) }
-    ensures quiet { OnErr result (AreAlike (R.seen reader.old) (R.seen reader.new)) }
+    ensures refused { OnErr result (LosesRead (length piece.old)
+        (R.seen reader.old) (R.seen reader.new) bytes.old.items bytes.new.items) }
 {
     match reader.read(piece) {
         Ok(0) => Ok(Piece::End),
@@ -151,17 +138,10 @@ impl Blocks {
     /// Appends the bytes of one read to a block. Returns whether the device ended.
     fn take<R: ByteIn>(&mut self, reader: &mut R, block: &mut Vec<u8>) -> Result<bool, ReadFault>
         requires { HasRoom self.old }
-        ensures room { HasRoom self.new }
-        ensures more { IfOk result (λ _.
-            GoesOnTaking (R.seen reader.old) self.old (R.seen reader.new) self.new
-            block.old.items block.new.items) }
-        ensures left { OnOk result
-            (length block.new.items + self.new.left ≡ length block.old.items + self.old.left) }
+        ensures filled { IsFilled (length block.old.items) (R.seen reader.old) self.old
+            (R.seen reader.new) self.new block.old.items block.new.items result }
         ensures on { IfOk result (λ ended. ended ≡ false → IsTakenOn self.old self.new
             (length block.old.items) (length block.new.items)) }
-        ensures end { IfOk result (λ ended. ended ≡ true → IsAtEnd (R.seen reader.new).bytes) }
-        ensures fault { IfErr result
-            (StopsTaking (R.seen reader.old) self.old (R.seen reader.new)) }
     {
         let before = block.len();
         let wanted = self.left.min(PIECE as u64 - 1) as usize + 1;
@@ -201,16 +181,8 @@ impl Blocks {
         size: usize,
     ) -> Result<bool, ReadFault>
         requires { HasRoom self.old }
-        ensures room { HasRoom self.new }
-        ensures more { IfOk result (λ _.
-            GoesOnTaking (R.seen reader.old) self.old (R.seen reader.new) self.new
-            block.old.items block.new.items) }
-        ensures left { OnOk result
-            (length block.new.items + self.new.left ≡ length block.old.items + self.old.left) }
-        ensures full { IfOk result (λ ended. ended ≡ false → size ≤ length block.new.items) }
-        ensures end { IfOk result (λ ended. ended ≡ true → IsAtEnd (R.seen reader.new).bytes) }
-        ensures fault { IfErr result
-            (StopsTaking (R.seen reader.old) self.old (R.seen reader.new)) }
+        ensures { IsFilled size (R.seen reader.old) self.old (R.seen reader.new) self.new
+            block.old.items block.new.items result }
     {
         while block.len() < size {
             match self.take(reader, block) {

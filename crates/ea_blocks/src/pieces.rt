@@ -4,7 +4,7 @@
 //! appended, its lines are read again from there, so that the first fault is found.
 ghost use Rattle.std.specs.Prelude.{◌≡◌, ◌<◌, ◌≤◌, ◌+◌, ◌^◌, ◌++◌, IfNone, IfOk, IfSome, Ok, length, take, true};
 ghost use Rattle.std.specs.Thread.{IsSync};
-ghost use Rattle.ea_blocks.specs.Pieces.{IsTakenUp};
+ghost use Rattle.ea_blocks.specs.Pieces.{CanReadBeside, CanReadHalves, IsCutInto, IsTakenUp, ReadsBeside, ReadsHalves};
 ghost use Rattle.ea_blocks.specs.Reading.{ReadsAll};
 ghost use Rattle.ea_blocks.specs.Streams.{EndsLine};
 ghost use Rattle.ea_bytes.specs.Text.{lines_of};
@@ -38,8 +38,7 @@ pub trait BlockReader: LineReader + Send + Sized {
 
 /// Cuts a text after the first line feed at or after this index.
 fn cut_after(text: &[u8], from: usize) -> (&[u8], &[u8])
-    ensures lines { lines_of text.now ≡ lines_of result.0.now ++ lines_of result.1.now }
-    ensures whole { text.now ≡ result.0.now ++ result.1.now }
+    ensures { IsCutInto text.now result.0.now result.1.now }
 {
     for at in from..text.len() {
         if text[at] == b'\n' {
@@ -74,8 +73,7 @@ struct Halves<'a> {
 
 /// Cuts a text about at this index, after this many lines before it.
 fn parts_of(text: &[u8], place: usize, before: u64) -> Halves<'_>
-    ensures lines { lines_of text.now ≡ lines_of result.front.now ++ lines_of result.back.now }
-    ensures whole { text.now ≡ result.front.now ++ result.back.now }
+    ensures cut { IsCutInto text.now result.front.now result.back.now }
     ensures before { result.before ≡ before }
 {
     let (front, back) = cut_after(text, place);
@@ -88,8 +86,7 @@ fn parts_of(text: &[u8], place: usize, before: u64) -> Halves<'_>
 
 /// Cuts a text about in the middle, after this many lines before it.
 fn halves_of(text: &[u8], before: u64) -> Halves<'_>
-    ensures lines { lines_of text.now ≡ lines_of result.front.now ++ lines_of result.back.now }
-    ensures whole { text.now ≡ result.front.now ++ result.back.now }
+    ensures cut { IsCutInto text.now result.front.now result.back.now }
     ensures before { result.before ≡ before }
 {
     parts_of(text, text.len() / 2, before)
@@ -104,10 +101,9 @@ fn read_one<R: BlockReader, H: Threads + Sync, X, B: FnMut() -> X>(
     text: &[u8],
     beside: &mut B,
 ) -> (Result<u64, InputFault>, X)
-    requires few { before + length text.now < 2 ^ 64 }
-    requires beside { B.pre beside.old }
-    ensures read { ReadsAll R.step R.state before reader.old reader.new text.entry.now result.0 }
-    ensures beside { B.step beside.old result.1 beside.new }
+    requires { CanReadBeside before text.now (B.pre beside.old) }
+    ensures { ReadsBeside R.step R.state before reader.old reader.new text.entry.now result.0
+        (B.step beside.old result.1 beside.new) }
 {
     let mut reading = move || -> Result<u64, InputFault> {
         read_lines(alloc, reader, before, text)
@@ -125,13 +121,10 @@ fn read_both<R: BlockReader, H: Threads + Sync, X, B: FnMut() -> X>(
     aside: &mut R,
     beside: &mut B,
 ) -> (Result<u64, InputFault>, (Result<u64, InputFault>, X))
-    requires few { halves.before + length halves.front.now < 2 ^ 64 }
-    requires beside { B.pre beside.old }
-    ensures aside { ReadsAll R.step R.state 0 aside.old aside.new
-        halves.entry.back.now result.0 }
-    ensures read { ReadsAll R.step R.state halves.entry.before reader.old reader.new
-        halves.entry.front.now result.1.0 }
-    ensures beside { B.step beside.old result.1.1 beside.new }
+    requires { CanReadBeside halves.before halves.front.now (B.pre beside.old) }
+    ensures { ReadsHalves R.step R.state halves.entry.before halves.entry.front.now
+        halves.entry.back.now reader.old reader.new aside.old aside.new result.1.0 result.0
+        (B.step beside.old result.1.1 beside.new) }
 {
     let Halves {
         front,
@@ -142,10 +135,9 @@ fn read_both<R: BlockReader, H: Threads + Sync, X, B: FnMut() -> X>(
         ensures { ReadsAll R.step R.state 0 aside.entry.now aside.exit.now back.entry.now result }
     { read_lines(alloc, aside, 0, back) };
     let mut others = move || -> (Result<u64, InputFault>, X)
-        requires { (before + length front.now < 2 ^ 64) × B.pre beside.now × IsSync H.row }
-        ensures { ReadsAll R.step R.state before reader.entry.now reader.exit.now front.entry.now
-            result.0
-            × B.step beside.entry.now result.1 beside.exit.now }
+        requires { CanReadBeside before front.now (B.pre beside.now) × IsSync H.row }
+        ensures { ReadsBeside R.step R.state before reader.entry.now reader.exit.now
+            front.entry.now result.0 (B.step beside.entry.now result.1 beside.exit.now) }
     { read_one(alloc, rt, reader, before, front, beside) };
     join_mut(rt, &mut at_back, &mut others)
 }
@@ -203,28 +195,23 @@ fn read_three<R: BlockReader, H: Threads + Sync, X, B: FnMut() -> X>(
     Result<u64, InputFault>,
     (Result<u64, InputFault>, (Result<u64, InputFault>, X)),
 )
-    requires few { halves.before + length halves.front.now < 2 ^ 64 }
-    requires beside { B.pre beside.old }
+    requires { CanReadBeside halves.before halves.front.now (B.pre beside.old) }
     ensures further { ReadsAll R.step R.state 0 further.old further.new
         piece.entry.now result.0 }
-    ensures aside { ReadsAll R.step R.state 0 aside.old aside.new
-        halves.entry.back.now result.1.0 }
-    ensures read { ReadsAll R.step R.state halves.entry.before reader.old reader.new
-        halves.entry.front.now result.1.1.0 }
-    ensures beside { B.step beside.old result.1.1.1 beside.new }
+    ensures halves { ReadsHalves R.step R.state halves.entry.before halves.entry.front.now
+        halves.entry.back.now reader.old reader.new aside.old aside.new result.1.1.0 result.1.0
+        (B.step beside.old result.1.1.1 beside.new) }
 {
     let mut at_piece = move || -> Result<u64, InputFault>
         ensures { ReadsAll R.step R.state 0 further.entry.now further.exit.now piece.entry.now
             result }
     { read_lines(alloc, further, 0, piece) };
     let mut others = move || -> (Result<u64, InputFault>, (Result<u64, InputFault>, X))
-        requires { (halves.before + length halves.front.now < 2 ^ 64) × B.pre beside.now
+        requires { CanReadBeside halves.before halves.front.now (B.pre beside.now)
             × IsSync H.row }
-        ensures { ReadsAll R.step R.state 0 aside.entry.now aside.exit.now
-            halves.entry.back.now result.0
-            × ReadsAll R.step R.state halves.entry.before reader.entry.now reader.exit.now
-            halves.entry.front.now result.1.0
-            × B.step beside.entry.now result.1.1 beside.exit.now }
+        ensures { ReadsHalves R.step R.state halves.entry.before halves.entry.front.now
+            halves.entry.back.now reader.entry.now reader.exit.now aside.entry.now aside.exit.now
+            result.1.0 result.0 (B.step beside.entry.now result.1.1 beside.exit.now) }
     { read_both(alloc, rt, halves, reader, aside, beside) };
     join_mut(rt, &mut at_piece, &mut others)
 }
@@ -248,17 +235,14 @@ fn read_four<R: BlockReader, H: Threads + Sync, X, B: FnMut() -> X>(
         (Result<u64, InputFault>, (Result<u64, InputFault>, X)),
     ),
 )
-    requires few { fronts.before + length fronts.front.now < 2 ^ 64 }
-    requires beside { B.pre beside.old }
+    requires { CanReadBeside fronts.before fronts.front.now (B.pre beside.old) }
     ensures fourth { ReadsAll R.step R.state 0 fourth.old fourth.new
         backs.entry.back.now result.0 }
     ensures third { ReadsAll R.step R.state 0 third.old third.new
         backs.entry.front.now result.1.0 }
-    ensures second { ReadsAll R.step R.state 0 second.old second.new
-        fronts.entry.back.now result.1.1.0 }
-    ensures first { ReadsAll R.step R.state fronts.entry.before first.old first.new
-        fronts.entry.front.now result.1.1.1.0 }
-    ensures beside { B.step beside.old result.1.1.1.1 beside.new }
+    ensures fronts { ReadsHalves R.step R.state fronts.entry.before fronts.entry.front.now
+        fronts.entry.back.now first.old first.new second.old second.new result.1.1.1.0 result.1.1.0
+        (B.step beside.old result.1.1.1.1 beside.new) }
 {
     let Halves {
         front: piece,
@@ -272,15 +256,13 @@ fn read_four<R: BlockReader, H: Threads + Sync, X, B: FnMut() -> X>(
         Result<u64, InputFault>,
         (Result<u64, InputFault>, (Result<u64, InputFault>, X)),
     )
-        requires { (fronts.before + length fronts.front.now < 2 ^ 64) × B.pre beside.now
+        requires { CanReadBeside fronts.before fronts.front.now (B.pre beside.now)
             × IsSync H.row }
         ensures { ReadsAll R.step R.state 0 third.entry.now third.exit.now
             piece.entry.now result.0
-            × ReadsAll R.step R.state 0 second.entry.now second.exit.now
-            fronts.entry.back.now result.1.0
-            × ReadsAll R.step R.state fronts.entry.before first.entry.now first.exit.now
-            fronts.entry.front.now result.1.1.0
-            × B.step beside.entry.now result.1.1.1 beside.exit.now }
+            × ReadsHalves R.step R.state fronts.entry.before fronts.entry.front.now
+            fronts.entry.back.now first.entry.now first.exit.now second.entry.now second.exit.now
+            result.1.1.0 result.1.0 (B.step beside.entry.now result.1.1.1 beside.exit.now) }
     { read_three(alloc, rt, fronts, first, second, piece, third, beside) };
     join_mut(rt, &mut at_last, &mut others)
 }
@@ -295,14 +277,11 @@ fn read_back_by_two<R: BlockReader, H: Threads + Sync, X, B: FnMut() -> X>(
     aside: &mut R,
     beside: &mut B,
 ) -> (Result<u64, InputFault>, (Result<u64, InputFault>, X))
-    requires few { (halves.before + length halves.front.now < 2 ^ 64)
-        × (length halves.back.now < 2 ^ 64) }
-    requires beside { B.pre beside.old }
-    ensures aside { ReadsAll R.step R.state 0 aside.old aside.new
-        halves.entry.back.now result.0 }
-    ensures read { ReadsAll R.step R.state halves.entry.before reader.old reader.new
-        halves.entry.front.now result.1.0 }
-    ensures beside { B.step beside.old result.1.1 beside.new }
+    requires { CanReadHalves halves.before halves.front.now halves.back.now
+        (B.pre beside.old) }
+    ensures { ReadsHalves R.step R.state halves.entry.before halves.entry.front.now
+        halves.entry.back.now reader.old reader.new aside.old aside.new result.1.0 result.0
+        (B.step beside.old result.1.1 beside.new) }
 {
     let Some(mut third) = aside.aside(alloc) else {
         return read_both(alloc, rt, halves, reader, aside, beside);
@@ -346,14 +325,11 @@ fn read_both_by_two<R: BlockReader, H: Threads + Sync, X, B: FnMut() -> X>(
     aside: &mut R,
     beside: &mut B,
 ) -> (Result<u64, InputFault>, (Result<u64, InputFault>, X))
-    requires few { (halves.before + length halves.front.now < 2 ^ 64)
-        × (length halves.back.now < 2 ^ 64) }
-    requires beside { B.pre beside.old }
-    ensures aside { ReadsAll R.step R.state 0 aside.old aside.new
-        halves.entry.back.now result.0 }
-    ensures read { ReadsAll R.step R.state halves.entry.before reader.old reader.new
-        halves.entry.front.now result.1.0 }
-    ensures beside { B.step beside.old result.1.1 beside.new }
+    requires { CanReadHalves halves.before halves.front.now halves.back.now
+        (B.pre beside.old) }
+    ensures { ReadsHalves R.step R.state halves.entry.before halves.entry.front.now
+        halves.entry.back.now reader.old reader.new aside.old aside.new result.1.0 result.0
+        (B.step beside.old result.1.1 beside.new) }
 {
     let Some((mut second, mut fourth)) = both_aside(alloc, reader, aside) else {
         return read_both(alloc, rt, halves, reader, aside, beside);
@@ -387,8 +363,7 @@ fn read_on<R: BlockReader>(
     halves: Halves<'_>,
     text: &[u8],
 ) -> Result<u64, InputFault>
-    requires cut { (lines_of text.now ≡ lines_of halves.front.now ++ lines_of halves.back.now)
-        × (text.now ≡ halves.front.now ++ halves.back.now) }
+    requires cut { IsCutInto text.now halves.front.now halves.back.now }
     requires few { IfOk read (λ line. line + length halves.back.now < 2 ^ 64) }
     requires aside { (start : R) × R.IsAside start
         × ReadsAll R.step R.state 0 start aside halves.back.now there }
@@ -413,14 +388,11 @@ fn read_halves<R: BlockReader, H: Threads + Sync, X, B: FnMut() -> X>(
     aside: &mut R,
     beside: &mut B,
 ) -> (Result<u64, InputFault>, (Result<u64, InputFault>, X))
-    requires few { (halves.before + length halves.front.now < 2 ^ 64)
-        × (length halves.back.now < 2 ^ 64) }
-    requires beside { B.pre beside.old }
-    ensures aside { ReadsAll R.step R.state 0 aside.old aside.new
-        halves.entry.back.now result.0 }
-    ensures read { ReadsAll R.step R.state halves.entry.before reader.old reader.new
-        halves.entry.front.now result.1.0 }
-    ensures beside { B.step beside.old result.1.1 beside.new }
+    requires { CanReadHalves halves.before halves.front.now halves.back.now
+        (B.pre beside.old) }
+    ensures { ReadsHalves R.step R.state halves.entry.before halves.entry.front.now
+        halves.entry.back.now reader.old reader.new aside.old aside.new result.1.0 result.0
+        (B.step beside.old result.1.1 beside.new) }
 {
     if way.threads == 4 {
         read_back_by_two(way.alloc, rt, halves, reader, aside, beside)
@@ -461,11 +433,10 @@ fn read_in_pieces<R: BlockReader, H: Threads + Sync, X, B: FnMut() -> X>(
     text: &[u8],
     beside: &mut B,
 ) -> (Result<u64, InputFault>, X)
-    requires few { before + length text.now < 2 ^ 64 }
+    requires can { CanReadBeside before text.now (B.pre beside.old) }
     requires aside { R.IsAside aside }
-    requires beside { B.pre beside.old }
-    ensures read { ReadsAll R.step R.state before reader.old reader.new text.entry.now result.0 }
-    ensures beside { B.step beside.old result.1 beside.new }
+    ensures { ReadsBeside R.step R.state before reader.old reader.new text.entry.now result.0
+        (B.step beside.old result.1 beside.new) }
 {
     let way = way_of_pieces(way, text.len());
     let halves = parts_of(text, cut_of(way, text.len()), before);
@@ -488,10 +459,9 @@ pub fn read_more<R: BlockReader, H: Threads + Sync, X, B: FnMut() -> X>(
     text: &[u8],
     beside: &mut B,
 ) -> (Result<u64, InputFault>, X)
-    requires few { before + length text.now < 2 ^ 64 }
-    requires beside { B.pre beside.old }
-    ensures read { ReadsAll R.step R.state before reader.old reader.new text.entry.now result.0 }
-    ensures beside { B.step beside.old result.1 beside.new }
+    requires { CanReadBeside before text.now (B.pre beside.old) }
+    ensures { ReadsBeside R.step R.state before reader.old reader.new text.entry.now result.0
+        (B.step beside.old result.1 beside.new) }
 {
     let alloc = way.alloc;
     if way.threads < 2 {

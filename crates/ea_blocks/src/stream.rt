@@ -1,6 +1,7 @@
 //! Reading the texts of devices line by line as their bytes come, so that no text is in memory whole: while
 //! the lines of a block are read, the next block is filled.
 ghost use Rattle.std.specs.Prelude.{◌≡◌, ◌<◌, ◌+◌, ◌^◌, ◌++◌, IfSome, length};
+ghost use Rattle.ea_blocks.specs.Pieces.{CanReadBeside};
 ghost use Rattle.ea_blocks.specs.Reading.{text_after};
 ghost use Rattle.ea_blocks.specs.Streams.{EndsLine, FeedsOn, Finishes, GivesWhole, IsFilled};
 ghost use Rattle.ea_blocks.specs.Taking.{HasRoom};
@@ -43,8 +44,7 @@ impl<R: BlockReader> Feed<R> {
         text: &[u8],
         beside: &mut B,
     ) -> X
-        requires few { self.old.lines + length text.now < 2 ^ 64 }
-        requires beside { B.pre beside.old }
+        requires { CanReadBeside self.old.lines text.now (B.pre beside.old) }
         ensures fed { FeedsOn R.step (R.state self.old.reader) self.old.lines self.old.fault
             (R.state self.new.reader) self.new.lines self.new.fault text.entry.now }
         ensures beside { B.step beside.old result beside.new }
