@@ -1,5 +1,6 @@
 -- What a worker has: the ground of its problem, its two seats, and the entries that it holds.
 use Rattle.std.specs.Prelude.{◌≡◌, ℕ, ◌<◌, ◌≤◌, List, Option, Bool, true, false, [], length}
+use Rattle.arrayvec.specs.ArrayVec.{array_vec_len}
 use Rattle.rand_core.specs.Stream.{Stream}
 use Rattle.ea_base.specs.declared.limits.TheConstants.{MOST_BATCH}
 use Rattle.ea_road.specs.Roads.{Roads, IsArc}
@@ -15,7 +16,7 @@ use Rattle.ea_engine.specs.declared.worker.turn.Lists.{Lists}
 use Rattle.ea_engine.specs.Problems.{Problem}
 use Rattle.ea_engine.specs.Grounds.{IsGround, tables_of}
 use Rattle.ea_engine.specs.Seated.{Tables, AreSeatsOf}
-use Rattle.ea_engine.specs.Worked.{kit, OnlySaw, Progress}
+use Rattle.ea_engine.specs.Worked.{kit, Progress}
 
 -- The worker's seats were made by these tables, and its fresh entries are known.
 pub record AreMeans {K R E : Type 0} (known : ℕ → ℕ → Type 0) (tables : Tables) (means : Means K R E) (fresh : List Entry) : Type 0 where
@@ -33,18 +34,6 @@ pub record HoldNothing (lists : Lists) : Type 0 where
   pub taken : lists.taken.items ≡ []
   pub fresh : lists.fresh.items ≡ []
 
--- The entry is known, and the arc leaves its node.
-pub record MayFollow (known : ℕ → ℕ → Type 0) (network : Roads) (entry : Entry) (arc : Arc) : Type 0 where
-  pub is_known : known entry.node entry.key
-  pub number : ℕ
-  pub is_arc : IsArc network number arc
-  pub tail_is : arc.tail ≡ entry.node
-
--- The seat saw some labels and lowered none.
-pub record OnlyRead (before after : labels.SeatView) : Type 0 where
-  pub same_table : after.table ≡ before.table
-  pub saw : OnlySaw before.history after.history
-
 -- A push of all fresh entries with one drawn word: none is left exactly if the pool took all.
 pub record PushesFresh (known : ℕ → ℕ → Type 0) (pool : pools.PoolView) (before after : pools.SeatView) (words words' : Stream) (fresh left : List Entry) (took_all : Bool) : Type 0 where
   pub of_pool : pools.IsSeatOf pool after
@@ -54,23 +43,58 @@ pub record PushesFresh (known : ℕ → ℕ → Type 0) (pool : pools.PoolView) 
   pub some : took_all ≡ false → 0 < length left
   pub few : length left ≤ length fresh
 
+-- A seat of the pool, and known entries to be pushed with it.
+pub record MayPush (known : ℕ → ℕ → Type 0) (pool : pools.PoolView) (seat : pools.SeatView) (fresh : List Entry) : Type 0 where
+  pub of_pool : pools.IsSeatOf pool seat
+  pub fresh_known : AreKnown known fresh
+
 module _ {K T E : Type 0} (known : ℕ → ℕ → Type 0) (problem : Problem) (answers : T → ℕ → ℕ → ℕ → ℕ → Type 0) (classes : T → ℕ) (ground : Ground K T E) where
   -- The seat was made by the label table of the problem's ground.
   pub record MayRead (seat : labels.SeatView) : Type 0 where
     pub is_ground : IsGround known problem answers classes ground
     pub seat_fits : seat.table ≡ ground.labels.now.table
 
-  -- The ground is the problem's, the means fit it, and there is room for one more fresh entry.
-  pub record MayRelax {R : Type 0} (batch : ℕ) (means : Means K R E) (fresh : List Entry) : Type 0 where
+  -- The same, and the entries are known.
+  pub record MayReadAhead (seat : labels.SeatView) (entries : List Entry) : Type 0 where
+    pub may_read : MayRead seat
+    pub all_known : AreKnown known entries
+
+  -- The ground is the problem's, the means fit it, there is room for one more fresh entry, and the entry is
+  -- known.
+  pub record MayScan {R : Type 0} (batch : ℕ) (means : Means K R E) (fresh : List Entry) (entry : Entry) : Type 0 where
     pub is_ground : IsGround known problem answers classes ground
     pub are_means : AreMeans known (tables_of ground) means fresh
     pub room : length fresh < batch
     pub batch_few : batch ≤ MOST_BATCH
+    pub is_known : known entry.node entry.key
 
-  -- The same before a turn, with the target of the problem's query.
-  pub record MayTurn {R : Type 0} (target : Option ℕ) (batch : ℕ) (means : Means K R E) (lists : Lists) : Type 0 where
+  -- The same, and the arc leaves the entry's node.
+  pub record MayRelax {R : Type 0} (batch : ℕ) (means : Means K R E) (fresh : List Entry) (entry : Entry) (arc : Arc) : Type 0 where
+    pub may_scan : MayScan batch means fresh entry
+    pub number : ℕ
+    pub is_arc : IsArc problem.network number arc
+    pub tail_is : arc.tail ≡ entry.node
+
+  -- The ground and the target are the problem's, the means and the entries held fit them, and there is room
+  -- for one more fresh entry.
+  pub record IsEquipped {R : Type 0} (target : Option ℕ) (batch : ℕ) (means : Means K R E) (lists : Lists) : Type 0 where
     pub is_ground : IsGround known problem answers classes ground
     pub target_is : target ≡ problem.query.target
     pub are_held : AreHeld known (tables_of ground) means lists
     pub room : length lists.fresh.items < batch
     pub batch_few : batch ≤ MOST_BATCH
+
+  -- The same before a turn: fewer entries than a batch are taken.
+  pub record MayTurn {R : Type 0} (target : Option ℕ) (batch : ℕ) (means : Means K R E) (lists : Lists) : Type 0 where
+    pub equipped : IsEquipped target batch means lists
+    pub few : array_vec_len lists.taken < batch
+
+  -- The same before a visit: an entry is taken.
+  pub record MayVisit {R : Type 0} (target : Option ℕ) (batch : ℕ) (means : Means K R E) (lists : Lists) : Type 0 where
+    pub equipped : IsEquipped target batch means lists
+    pub some : 0 < array_vec_len lists.taken
+
+  -- The same before a pop: no entry is taken.
+  pub record MayPop {R : Type 0} (target : Option ℕ) (batch : ℕ) (means : Means K R E) (lists : Lists) : Type 0 where
+    pub equipped : IsEquipped target batch means lists
+    pub none : lists.taken.items ≡ []

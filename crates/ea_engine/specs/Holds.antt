@@ -44,8 +44,9 @@ pub record TookSome (known : ℕ → ℕ → Type 0) (kind : HeapKind) (heaps mo
   pub word : ℕ
   pub lowest : IsLowest kind heaps word out before
 
--- No entry is taken, and a batch may be.
-pub record MayTake (most : ℕ) (taken : List Entry) : Type 0 where
+-- A seat of the pool by which a batch may be taken; no entry is taken.
+pub record MayTake (pool : pools.PoolView) (seat : pools.SeatView) (most : ℕ) (taken : List Entry) : Type 0 where
+  pub of_pool : pools.IsSeatOf pool seat
   pub none : taken ≡ []
   pub some : 0 < most
   pub few : most ≤ MOST_BATCH

@@ -7,10 +7,12 @@ pub mod Grounds
 pub mod Turns
 pub mod Looks
 pub mod Worked
+pub mod Reads
 pub mod Holds
 pub mod Seated
 pub mod Equipped
 pub mod Scans
+pub mod Steps
 pub mod Rows
 pub mod Reports
 pub mod Openings

@@ -1,8 +1,8 @@
 //! Prefetches for visits. The loads of a loop don't depend on one another, so that many overlap. No result
 //! depends on the values.
-ghost use Rattle.ea_pool.specs.Entries.{AreKnown};
 ghost use Rattle.ea_road.specs.Roads.{IsNode};
-ghost use Rattle.ea_engine.specs.Equipped.{MayRead, OnlyRead};
+ghost use Rattle.ea_engine.specs.Equipped.{MayRead, MayReadAhead};
+ghost use Rattle.ea_engine.specs.Reads.{OnlyRead};
 
 use crate::run::ground::Ground;
 use crate::run::problem::Posed;
@@ -20,8 +20,8 @@ fn read_places<K: Known + Posed, E: EntryHeap, T: TravelTimes>(
     seat: &mut LabelSeat<K>,
     entries: &[Entry],
 ) -> u32
-    requires seat { MayRead K.is_known K.problem T.answers T.classes ground.now seat.old }
-    requires known { AreKnown K.is_known entries.now }
+    requires may { MayReadAhead K.is_known K.problem T.answers T.classes ground.now seat.old
+        entries.now }
     ensures { OnlyRead seat.old seat.new }
 {
     let mut places = 0;
@@ -63,8 +63,8 @@ pub fn read_ahead<K: Known + Posed, E: EntryHeap, T: TravelTimes>(
     seat: &mut LabelSeat<K>,
     entries: &[Entry],
 )
-    requires seat { MayRead K.is_known K.problem T.answers T.classes ground.now seat.old }
-    requires known { AreKnown K.is_known entries.now }
+    requires may { MayReadAhead K.is_known K.problem T.answers T.classes ground.now seat.old
+        entries.now }
     ensures { OnlyRead seat.old seat.new }
 {
     if entries.len() < FEW {

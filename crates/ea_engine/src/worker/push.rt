@@ -1,7 +1,5 @@
 //! Pushing the fresh entries of a worker.
-ghost use Rattle.ea_pool.specs.Entries.{AreKnown};
-ghost use Rattle.ea_pool.specs.Seats.{IsSeatOf};
-ghost use Rattle.ea_engine.specs.Equipped.{PushesFresh};
+ghost use Rattle.ea_engine.specs.Equipped.{MayPush, PushesFresh};
 
 use ea_pool::{Batch, EntryHeap, Pool, PoolSeat};
 use ea_road::Known;
@@ -16,8 +14,7 @@ pub fn push_fresh<K: Known, E: EntryHeap, R: Rng>(
     rng: &mut R,
     fresh: &mut Batch,
 ) -> bool
-    requires pool_seat { IsSeatOf pool.now pool_seat.old }
-    requires known { AreKnown K.is_known fresh.old.items }
+    requires may { MayPush K.is_known pool.now pool_seat.old fresh.old.items }
     ensures { PushesFresh K.is_known pool.now pool_seat.old pool_seat.new
         (R.stream rng.old) (R.stream rng.new) fresh.old.items fresh.new.items result }
 {

@@ -1,11 +1,10 @@
-ghost use Rattle.std.specs.Prelude.{◌≡◌, ℕ, ◌≤◌, [], true};
+ghost use Rattle.std.specs.Prelude.{ℕ, ◌≤◌};
 ghost use Rattle.ea_base.specs.declared.limits.TheConstants.{HORIZON};
 ghost use Rattle.ea_road.specs.Roads.{IsArc};
-ghost use Rattle.ea_engine.specs.Closed.{IsFollowed};
-ghost use Rattle.ea_engine.specs.Equipped.{AreMeans, MayFollow, MayRead, MayRelax, OnlyRead};
+ghost use Rattle.ea_engine.specs.Equipped.{MayRead, MayRelax, MayScan};
 ghost use Rattle.ea_engine.specs.Grounds.{tables_of};
-ghost use Rattle.ea_engine.specs.Scans.{IsRelaxed, IsScan};
-ghost use Rattle.ea_engine.specs.Seated.{kit_of};
+ghost use Rattle.ea_engine.specs.Reads.{TellsFollowed};
+ghost use Rattle.ea_engine.specs.Steps.{Relaxes, ScansEntry};
 
 use crate::run::ground::Ground;
 use crate::run::problem::Posed;
@@ -53,9 +52,7 @@ fn is_ahead<K: Known + Posed, E: EntryHeap, T: TravelTimes>(
     requires seat { MayRead K.is_known K.problem T.answers T.classes ground.now seat.old }
     requires departure { departure ≤ HORIZON }
     requires arc { (number : ℕ) × IsArc K.problem.network number arc }
-    ensures saw { OnlyRead seat.old seat.new }
-    ensures followed { result ≡ true
-        → IsFollowed K.problem seat.new.history.bounds departure arc }
+    ensures { TellsFollowed K.problem seat.old seat.new departure arc result }
 {
     if arc.class == 0 {
         return false;
@@ -74,12 +71,10 @@ fn ask_and_offer<K: Known + Posed, E: EntryHeap, T: TravelTimes, R: Rng>(
     entry: Entry,
     arc: Arc,
 ) -> Followed
-    requires means { MayRelax K.is_known K.problem T.answers T.classes ground.now
-        batch means.old fresh.old.items }
-    requires arc { MayFollow K.is_known K.problem.network entry arc }
-    ensures means { AreMeans K.is_known (tables_of ground.now) means.new fresh.new.items }
-    ensures relaxed { IsRelaxed K.problem batch (kit_of R.stream means.old [] fresh.old.items)
-        (kit_of R.stream means.new [] fresh.new.items) entry arc result }
+    requires may { MayRelax K.is_known K.problem T.answers T.classes ground.now
+        batch means.old fresh.old.items entry arc }
+    ensures { Relaxes K.is_known K.problem (tables_of ground.now) R.stream batch
+        means.old fresh.old.items means.new fresh.new.items entry arc result }
 {
     let arrival = ground
         .times
@@ -120,12 +115,10 @@ pub fn follow<K: Known + Posed, E: EntryHeap, T: TravelTimes, R: Rng>(
     entry: Entry,
     arc: Arc,
 ) -> Followed
-    requires means { MayRelax K.is_known K.problem T.answers T.classes ground.now
-        batch means.old fresh.old.items }
-    requires arc { MayFollow K.is_known K.problem.network entry arc }
-    ensures means { AreMeans K.is_known (tables_of ground.now) means.new fresh.new.items }
-    ensures relaxed { IsRelaxed K.problem batch (kit_of R.stream means.old [] fresh.old.items)
-        (kit_of R.stream means.new [] fresh.new.items) entry arc result }
+    requires may { MayRelax K.is_known K.problem T.answers T.classes ground.now
+        batch means.old fresh.old.items entry arc }
+    ensures { Relaxes K.is_known K.problem (tables_of ground.now) R.stream batch
+        means.old fresh.old.items means.new fresh.new.items entry arc result }
 {
     if is_ahead(ground, &mut means.label_seat, entry.key, arc) {
         return Followed::Unchanged;
@@ -142,12 +135,10 @@ pub fn scan_entry<K: Known + Posed, E: EntryHeap, T: TravelTimes, R: Rng>(
     batch: usize,
     entry: Entry,
 ) -> ScanEnd
-    requires means { MayRelax K.is_known K.problem T.answers T.classes ground.now
-        batch means.old fresh.old.items }
-    requires entry { K.is_known entry.node entry.key }
-    ensures means { AreMeans K.is_known (tables_of ground.now) means.new fresh.new.items }
-    ensures scan { IsScan K.problem batch (kit_of R.stream means.old [] fresh.old.items)
-        (kit_of R.stream means.new [] fresh.new.items) entry result }
+    requires may { MayScan K.is_known K.problem T.answers T.classes ground.now
+        batch means.old fresh.old.items entry }
+    ensures { ScansEntry K.is_known K.problem (tables_of ground.now) R.stream batch
+        means.old fresh.old.items means.new fresh.new.items entry result }
 {
     let mut lowered = 0;
     let mut pushes = 0;

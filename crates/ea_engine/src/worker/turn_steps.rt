@@ -1,14 +1,12 @@
 //! One turn of a worker.
-ghost use Rattle.std.specs.Prelude.{◌≡◌, ◌<◌, [], true, false};
+ghost use Rattle.std.specs.Prelude.{◌≡◌, ◌<◌, true, false};
 ghost use Rattle.arrayvec.specs.ArrayVec.{array_vec_len};
-ghost use Rattle.ea_pool.specs.Seats.{IsSeatOf};
-ghost use Rattle.ea_engine.specs.Equipped.{AreHeld, HoldNothing, MayTurn};
+ghost use Rattle.ea_engine.specs.Equipped.{HoldNothing, MayPop, MayTurn, MayVisit};
 ghost use Rattle.ea_engine.specs.Grounds.{tables_of};
-ghost use Rattle.ea_engine.specs.Holds.{IsVisit, MayTake, PopsDrawn};
+ghost use Rattle.ea_engine.specs.Holds.{MayTake, PopsDrawn};
 ghost use Rattle.ea_engine.specs.Looks.{first_heap, second_heap, SawAs};
-ghost use Rattle.ea_engine.specs.Seated.{kit_with};
+ghost use Rattle.ea_engine.specs.Steps.{TakesTurn, VisitsTaken};
 ghost use Rattle.ea_engine.specs.Turns.{is_refused};
-ghost use Rattle.ea_engine.specs.Worked.{IsTurnWithin};
 
 use crate::run::ground::Ground;
 use crate::run::problem::Posed;
@@ -43,8 +41,7 @@ fn pop_drawn<K: Known, E: EntryHeap, R: Rng>(
     most: usize,
     taken: &mut Batch,
 ) -> PoppedSome
-    requires pool_seat { IsSeatOf pool.now pool_seat.old }
-    requires taken { MayTake most taken.old.items }
+    requires may { MayTake pool.now pool_seat.old most taken.old.items }
     ensures { PopsDrawn K.is_known E.kind pool.now most taken.new.items
         pool_seat.old pool_seat.new (R.stream rng.old) (R.stream rng.new) result }
 {
@@ -65,12 +62,10 @@ fn visit_taken<K: Known + Posed, E: EntryHeap, T: TravelTimes, R: Rng>(
     batch: usize,
     number: u64,
 ) -> TurnEnd
-    requires means { MayTurn K.is_known K.problem T.answers T.classes ground.now
+    requires may { MayVisit K.is_known K.problem T.answers T.classes ground.now
         target batch means.old lists.old }
-    requires taken { 0 < array_vec_len lists.old.taken }
-    ensures means { AreHeld K.is_known (tables_of ground.now) means.new lists.new }
-    ensures visit { IsVisit K.problem batch (kit_with R.stream means.old lists.old)
-        (kit_with R.stream means.new lists.new) number result }
+    ensures { VisitsTaken K.is_known K.problem (tables_of ground.now) R.stream batch
+        means.old lists.old means.new lists.new number result }
 {
     let Some(entry) = lists.taken.pop() else {
         unreachable!()
@@ -95,12 +90,10 @@ fn visit_first<K: Known + Posed, E: EntryHeap, T: TravelTimes, R: Rng>(
     batch: usize,
     number: u64,
 ) -> TurnEnd
-    requires means { MayTurn K.is_known K.problem T.answers T.classes ground.now
+    requires may { MayVisit K.is_known K.problem T.answers T.classes ground.now
         target batch means.old lists.old }
-    requires taken { 0 < array_vec_len lists.old.taken }
-    ensures means { AreHeld K.is_known (tables_of ground.now) means.new lists.new }
-    ensures visit { IsVisit K.problem batch (kit_with R.stream means.old lists.old)
-        (kit_with R.stream means.new lists.new) number result }
+    ensures { VisitsTaken K.is_known K.problem (tables_of ground.now) R.stream batch
+        means.old lists.old means.new lists.new number result }
 {
     read_ahead(ground, &mut means.label_seat, &lists.taken);
     visit_taken(ground, target, means, lists, batch, number)
@@ -115,13 +108,10 @@ fn pop_and_visit<K: Known + Posed, E: EntryHeap, T: TravelTimes, R: Rng>(
     batch: usize,
     number: u64,
 ) -> TurnEnd
-    requires means { MayTurn K.is_known K.problem T.answers T.classes ground.now
+    requires may { MayPop K.is_known K.problem T.answers T.classes ground.now
         target batch means.old lists.old }
-    requires taken { lists.old.taken.items ≡ [] }
-    ensures means { AreHeld K.is_known (tables_of ground.now) means.new lists.new }
-    ensures turn { IsTurnWithin K.problem E.kind batch (tables_of ground.now).pool.heaps 0
-        (kit_with R.stream means.old lists.old)
-        (kit_with R.stream means.new lists.new) number result }
+    ensures turn { TakesTurn K.is_known K.problem (tables_of ground.now) R.stream batch E.kind 0
+        means.old lists.old means.new lists.new number result }
     ensures saw { SawAs result.turn.kind
         (first_heap (tables_of ground.now).pool.heaps (R.stream means.old.rng))
         (second_heap (tables_of ground.now).pool.heaps (R.stream means.old.rng))
@@ -153,13 +143,10 @@ fn visit_next<K: Known + Posed, E: EntryHeap, T: TravelTimes, R: Rng>(
     batch: usize,
     number: u64,
 ) -> TurnEnd
-    requires means { MayTurn K.is_known K.problem T.answers T.classes ground.now
+    requires may { MayTurn K.is_known K.problem T.answers T.classes ground.now
         target batch means.old lists.old }
-    requires taken { array_vec_len lists.old.taken < batch }
-    ensures means { AreHeld K.is_known (tables_of ground.now) means.new lists.new }
-    ensures turn { IsTurnWithin K.problem E.kind batch (tables_of ground.now).pool.heaps 0
-        (kit_with R.stream means.old lists.old)
-        (kit_with R.stream means.new lists.new) number result }
+    ensures { TakesTurn K.is_known K.problem (tables_of ground.now) R.stream batch E.kind 0
+        means.old lists.old means.new lists.new number result }
 {
     if lists.taken.is_empty() {
         return pop_and_visit(ground, target, means, lists, batch, number);
@@ -184,13 +171,10 @@ pub fn take_turn<K: Known + Posed, E: EntryHeap, T: TravelTimes, R: Rng>(
     batch: usize,
     number: u64,
 ) -> TurnEnd
-    requires means { MayTurn K.is_known K.problem T.answers T.classes ground.now
+    requires may { MayTurn K.is_known K.problem T.answers T.classes ground.now
         target batch means.old lists.old }
-    requires taken { array_vec_len lists.old.taken < batch }
-    ensures means { AreHeld K.is_known (tables_of ground.now) means.new lists.new }
-    ensures turn { IsTurnWithin K.problem E.kind batch (tables_of ground.now).pool.heaps 1
-        (kit_with R.stream means.old lists.old)
-        (kit_with R.stream means.new lists.new) number result }
+    ensures { TakesTurn K.is_known K.problem (tables_of ground.now) R.stream batch E.kind 1
+        means.old lists.old means.new lists.new number result }
 {
     let mut end = visit_next(ground, target, means, lists, batch, number);
     if !is_due(end.turn.kind, lists) {

@@ -1,11 +1,10 @@
 //! A worker visits an entry.
-ghost use Rattle.std.specs.Prelude.{◌≡◌, [], true, None, IfSome};
+ghost use Rattle.std.specs.Prelude.{◌≡◌, true, None, IfSome};
 ghost use Rattle.ea_road.specs.Roads.{IsNode};
-ghost use Rattle.ea_engine.specs.Closed.{TellsCut};
-ghost use Rattle.ea_engine.specs.Equipped.{AreMeans, MayRelax, OnlyRead};
+ghost use Rattle.ea_engine.specs.Equipped.{MayScan};
 ghost use Rattle.ea_engine.specs.Grounds.{tables_of};
-ghost use Rattle.ea_engine.specs.Holds.{IsVisitOf};
-ghost use Rattle.ea_engine.specs.Seated.{kit_of};
+ghost use Rattle.ea_engine.specs.Reads.{TellsCut};
+ghost use Rattle.ea_engine.specs.Steps.{VisitsEntry};
 ghost use Rattle.ea_engine.specs.Turns.{is_idle, is_refused, is_leave, IsIdleTurn};
 
 use crate::run::ground::Ground;
@@ -73,8 +72,7 @@ fn is_above_target<K: Known>(
 ) -> bool
     requires seat { seat.old.table ≡ labels.now.table }
     requires target { IfSome target (λ node. IsNode labels.now.nodes node) }
-    ensures saw { OnlyRead seat.old seat.new }
-    ensures cut { TellsCut target seat.old.history.bounds seat.new.history.bounds entry result }
+    ensures { TellsCut target seat.old seat.new entry result }
 {
     match target {
         None => false,
@@ -117,13 +115,11 @@ pub fn visit<K: Known + Posed, E: EntryHeap, T: TravelTimes, R: Rng>(
     number: u64,
     entry: Entry,
 ) -> TurnEnd
-    requires means { MayRelax K.is_known K.problem T.answers T.classes ground.now
-        batch means.old fresh.old.items }
+    requires entry { MayScan K.is_known K.problem T.answers T.classes ground.now
+        batch means.old fresh.old.items entry }
     requires target { target ≡ K.problem.query.target }
-    requires entry { K.is_known entry.node entry.key }
-    ensures means { AreMeans K.is_known (tables_of ground.now) means.new fresh.new.items }
-    ensures visited { IsVisitOf K.problem batch entry (kit_of R.stream means.old [] fresh.old.items)
-        (kit_of R.stream means.new [] fresh.new.items) number result }
+    ensures { VisitsEntry K.is_known K.problem (tables_of ground.now) R.stream batch
+        means.old fresh.old.items means.new fresh.new.items entry number result }
 {
     let label = ground.labels.read(&mut means.label_seat, entry.node);
     if label < entry.key {

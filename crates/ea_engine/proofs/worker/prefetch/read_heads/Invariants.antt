@@ -1,4 +1,4 @@
-use Rattle.ea_engine.specs.Equipped.{OnlyRead}
+use Rattle.ea_engine.specs.Reads.{OnlyRead}
 use Rattle.ea_engine.proofs.worker.prefetch.read_heads.Given as goal
 
 abbrev pub invariant-loop-arc : goal.invariant-loop-arc

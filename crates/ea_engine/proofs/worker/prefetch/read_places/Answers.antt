@@ -7,12 +7,12 @@ pub loop-entry-init : goal.loop-entry-init
 loop-entry-init g c = record { same_table = refl; saw = OnlySaw-none _ }
 
 pub read-requires-clause-same_table : goal.read-requires-clause-same_table
-read-requires-clause-same_table g c κs outlives = c.loop-entry.invariant.same_table ∙ c.requires.seat.seat_fits
+read-requires-clause-same_table g c κs outlives = c.loop-entry.invariant.same_table ∙ c.requires.may.may_read.seat_fits
 
 pub read-requires-clause-node : goal.read-requires-clause-node
 read-requires-clause-node g c κs outlives =
-    let ground = c.requires.seat.is_ground in
-    known_at g.K.Known.is_known g.K.Posed.problem _ _ c.loop-entry.entry-index _ ground.places_are ground.posed c.requires.known c.loop-entry-test.true
+    let ground = c.requires.may.may_read.is_ground in
+    known_at g.K.Known.is_known g.K.Posed.problem _ _ c.loop-entry.entry-index _ ground.places_are ground.posed c.requires.may.all_known c.loop-entry-test.true
 
 pub loop-entry-preserved : goal.loop-entry-preserved
 loop-entry-preserved g c = record {

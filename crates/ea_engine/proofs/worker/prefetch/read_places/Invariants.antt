@@ -1,4 +1,4 @@
-use Rattle.ea_engine.specs.Equipped.{OnlyRead}
+use Rattle.ea_engine.specs.Reads.{OnlyRead}
 use Rattle.ea_engine.proofs.worker.prefetch.read_places.Given as goal
 
 abbrev pub invariant-loop-entry : goal.invariant-loop-entry

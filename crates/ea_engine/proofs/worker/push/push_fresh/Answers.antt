@@ -18,7 +18,7 @@ pub returns-in-Err : goal.returns-in-Err
 returns-in-Err g c = record {
   of_pool = c.in-Err.ensures.seat;
   progress = λ history. progress_left _ _ _ _ _ history _ _ _ c.in-Err.ensures.pushed c.next_u64-word.ensures;
-  left_known = known_left g.K.Known.is_known _ _ _ _ _ c.in-Err.ensures.pushed c.requires.known;
+  left_known = known_left g.K.Known.is_known _ _ _ _ _ c.in-Err.ensures.pushed c.requires.may.fresh_known;
   none = λ is. nothing _ (grind (arith, nat_tests));
   some = λ is. grind (arith, nat_tests);
   few = few_left _ _ _ _ _ c.in-Err.ensures.pushed;

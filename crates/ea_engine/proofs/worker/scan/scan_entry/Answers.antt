@@ -15,19 +15,19 @@ use Rattle.ea_engine.proofs.worker.scan.scan_entry.Goals.{in-Unchanged, in-Lower
 
 pub leaving-requires : goal.leaving-requires
 leaving-requires g c =
-    let ground = c.requires.means.is_ground in
-    subst (λ (n : Roads). IsNode n.nodes c.args.entry.node) (sym ground.named.network_is) (node_of g.K.Known.is_known g.K.Posed.problem ground.posed c.args.entry.node c.args.entry.key c.requires.entry)
+    let ground = c.requires.may.is_ground in
+    subst (λ (n : Roads). IsNode n.nodes c.args.entry.node) (sym ground.named.network_is) (node_of g.K.Known.is_known g.K.Posed.problem ground.posed c.args.entry.node c.args.entry.key c.requires.may.is_known)
 
 -- the arcs and the numbers of the leaving arcs correspond
 beside : (g : _) (c : After-leaving g) → AreSideBySide g.K.Posed.problem.network c.args.entry.node (leaving g.K.Posed.problem.network c.args.entry.node) c.leaving.result.arcs.now
 beside g c =
-    subst (λ (n : Roads). AreSideBySide n c.args.entry.node (leaving n c.args.entry.node) c.leaving.result.arcs.now) c.requires.means.is_ground.named.network_is
+    subst (λ (n : Roads). AreSideBySide n c.args.entry.node (leaving n c.args.entry.node) c.leaving.result.arcs.now) c.requires.may.is_ground.named.network_is
     (subst (λ numbers. AreSideBySide c.args.ground.now.network.now c.args.entry.node numbers c.leaving.result.arcs.now) c.leaving.ensures.numbers c.leaving.ensures.arcs)
 
 pub loop-arc-init : goal.loop-arc-init
 loop-arc-init g c = record {
-  are_means = c.requires.means.are_means;
-  room = c.requires.means.room;
+  are_means = c.requires.may.are_means;
+  room = c.requires.may.room;
   progress = Progress-none _;
   spent = λ k default lt. absurd (omega (arith, lt));
   few = omega arith;
@@ -35,23 +35,21 @@ loop-arc-init g c = record {
   one = λ is. refl;
 }
 
-pub follow-requires-clause-arc : goal.follow-requires-clause-arc
-follow-requires-clause-arc g c κs outlives =
-    let d = (goal.at.follow-requires-clause-arc g c).After-leaving in
+pub follow-requires-clause-may : goal.follow-requires-clause-may
+follow-requires-clause-may g c κs outlives =
+    let d = (goal.at.follow-requires-clause-may g c).After-leaving in
     record {
-      is_known = c.requires.entry;
+      may_scan = record {
+        is_ground = c.requires.may.is_ground;
+        are_means = c.loop-arc.invariant.are_means;
+        room = c.loop-arc.invariant.room;
+        batch_few = c.requires.may.batch_few;
+        is_known = c.requires.may.is_known;
+      };
       number = get_or (leaving g.K.Posed.problem.network c.args.entry.node) c.loop-arc.arc-index 0;
       is_arc = rw c.with_tail-arc.ensures (arc_beside g.K.Posed.problem.network c.args.entry.node (leaving g.K.Posed.problem.network c.args.entry.node) c.leaving.result.arcs.now c.loop-arc.arc-index no_leaving (beside g d) c.loop-arc-test.true);
       tail_is = ap (λ (arc : Arc). arc.tail) c.with_tail-arc.ensures;
     }
-
-pub follow-requires-clause-means : goal.follow-requires-clause-means
-follow-requires-clause-means g c κs outlives = record {
-  is_ground = c.requires.means.is_ground;
-  are_means = c.loop-arc.invariant.are_means;
-  room = c.loop-arc.invariant.room;
-  batch_few = c.requires.means.batch_few;
-}
 
 -- the arc relaxed last is spent, and those before it stay so
 spent : (g : _) (c : After-follow g) (k : ℕ) (default : LeavingArc) → k < c.loop-arc.arc-index + 1
@@ -94,41 +92,41 @@ loop-arc-preserved g c = record {
 few_arcs : (g : _) (c : After-leaving g) → length c.leaving.result.arcs.now ≤ 268435456
 few_arcs g c =
     let lengths = (beside g c).lengths in
-    omega (arith, leaving_few c.args.entry.node 1 g.K.Posed.problem.network.arcs, c.requires.means.is_ground.posed.network.arcs_limit)
+    omega (arith, leaving_few c.args.entry.node 1 g.K.Posed.problem.network.arcs, c.requires.may.is_ground.posed.network.arcs_limit)
 
-pub returns-in-Refused-clause-means : goal.returns-in-Refused-clause-means
-returns-in-Refused-clause-means g c = c.in-Refused.ensures.means
+pub returns-in-Refused : goal.returns-in-Refused
+returns-in-Refused g c = record {
+  means = c.in-Refused.ensures.means;
+  scan =
+      let so_far = c.loop-arc.invariant in
+      let relaxed = c.in-Refused.ensures.relaxed in
+      record {
+        progress = Progress-then _ _ _ [] [] [] c.loop-arc.pushes 1 _ c.loop-arc.lowered 1 _ so_far.progress relaxed.progress refl refl refl;
+        left = relaxed.left;
+        scanned = λ whole. absurd (false≢true (sym whole));
+        refused = λ is. omega arith;
+        few = omega (arith, few_arcs g (goal.at.returns-in-Refused g c).After-leaving, so_far.few, c.loop-arc-test.true);
+        pushes = omega (arith, so_far.pushes);
+        one_push_each = λ is. omega (arith, so_far.one is);
+      };
+}
 
-pub returns-in-Refused-clause-scan : goal.returns-in-Refused-clause-scan
-returns-in-Refused-clause-scan g c =
-    let so_far = c.loop-arc.invariant in
-    let relaxed = c.in-Refused.ensures.relaxed in
-    record {
-      progress = Progress-then _ _ _ [] [] [] c.loop-arc.pushes 1 _ c.loop-arc.lowered 1 _ so_far.progress relaxed.progress refl refl refl;
-      left = relaxed.left;
-      scanned = λ whole. absurd (false≢true (sym whole));
-      refused = λ is. omega arith;
-      few = omega (arith, few_arcs g (goal.at.returns-in-Refused-clause-scan g c).After-leaving, so_far.few, c.loop-arc-test.true);
-      pushes = omega (arith, so_far.pushes);
-      one_push_each = λ is. omega (arith, so_far.one is);
-    }
-
-pub returns-clause-means : goal.returns-clause-means
-returns-clause-means g c = c.loop-arc.invariant.are_means
-
-pub returns-clause-scan : goal.returns-clause-scan
-returns-clause-scan g c =
-    let so_far = c.loop-arc.invariant in
-    let d = (goal.at.returns-clause-scan g c).After-leaving in
-    record {
-      progress = so_far.progress;
-      left = so_far.room;
-      scanned = λ whole number arc is_arc tail.
-          let at = place_beside g.K.Posed.problem.network c.args.entry.node number arc no_leaving c.leaving.result.arcs.now (beside g d) is_arc tail in
-          subst (λ (a : Arc). IsFollowed g.K.Posed.problem c.loop-arc.means.label_seat.history.bounds c.args.entry.key a) at.3
-          (so_far.spent at.0 no_leaving (omega (arith, at.1)));
-      refused = λ is. absurd (false≢true is);
-      few = omega (arith, few_arcs g d, so_far.few, c.loop-arc.auto.arc-index-end);
-      pushes = so_far.pushes;
-      one_push_each = so_far.one;
-    }
+pub returns : goal.returns
+returns g c = record {
+  means = c.loop-arc.invariant.are_means;
+  scan =
+      let so_far = c.loop-arc.invariant in
+      let d = (goal.at.returns g c).After-leaving in
+      record {
+        progress = so_far.progress;
+        left = so_far.room;
+        scanned = λ whole number arc is_arc tail.
+            let at = place_beside g.K.Posed.problem.network c.args.entry.node number arc no_leaving c.leaving.result.arcs.now (beside g d) is_arc tail in
+            subst (λ (a : Arc). IsFollowed g.K.Posed.problem c.loop-arc.means.label_seat.history.bounds c.args.entry.key a) at.3
+            (so_far.spent at.0 no_leaving (omega (arith, at.1)));
+        refused = λ is. absurd (false≢true is);
+        few = omega (arith, few_arcs g d, so_far.few, c.loop-arc.auto.arc-index-end);
+        pushes = so_far.pushes;
+        one_push_each = so_far.one;
+      };
+}

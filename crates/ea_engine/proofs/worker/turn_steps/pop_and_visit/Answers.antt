@@ -4,89 +4,87 @@ use Rattle.ea_engine.proofs.HoldLemmas.{known_nothing, known_turned}
 use Rattle.ea_engine.proofs.TurnLemmas.{IsTurn-idle, IsTurn-popped, SawAs-visited, took_some}
 use Rattle.ea_engine.proofs.worker.turn_steps.pop_and_visit.Goals as goal
 
-pub pop_drawn-requires-clause-pool_seat : goal.pop_drawn-requires-clause-pool_seat
-pop_drawn-requires-clause-pool_seat g c κs outlives = c.requires.means.are_held.seats.pool
-
-pub pop_drawn-requires-clause-taken : goal.pop_drawn-requires-clause-taken
-pop_drawn-requires-clause-taken g c κs outlives = record {
-  none = c.requires.taken;
-  some = omega (arith, c.requires.means.room);
-  few = c.requires.means.batch_few;
+pub pop_drawn-requires-clause-may : goal.pop_drawn-requires-clause-may
+pop_drawn-requires-clause-may g c κs outlives = record {
+  of_pool = c.requires.may.equipped.are_held.seats.pool;
+  none = c.requires.may.none;
+  some = omega (arith, c.requires.may.equipped.room);
+  few = c.requires.may.equipped.batch_few;
 }
 
-pub returns-in-Empty-clause-means : goal.returns-in-Empty-clause-means
-returns-in-Empty-clause-means g c =
-    let held = c.requires.means.are_held in
-    record {
-      seats = record { labels = held.seats.labels; pool = c.in-Empty.ensures.of_pool };
-      taken_known = known_nothing g.K.Known.is_known _ c.in-Empty.ensures.popped.1;
-      fresh_known = held.fresh_known;
-    }
-
-pub returns-in-Busy-clause-means : goal.returns-in-Busy-clause-means
-returns-in-Busy-clause-means g c =
-    let held = c.requires.means.are_held in
-    record {
-      seats = record { labels = held.seats.labels; pool = c.in-Busy.ensures.of_pool };
-      taken_known = known_nothing g.K.Known.is_known _ c.in-Busy.ensures.popped.1;
-      fresh_known = held.fresh_known;
-    }
-
 pub returns-in-Empty-clause-turn : goal.returns-in-Empty-clause-turn
-returns-in-Empty-clause-turn g c =
-    let t = c.idle_turn.ensures in
-    let drawn = c.in-Empty.ensures in
-    record {
-      turn = IsTurn-idle _ _ _ _ _ _ _ _ _ _ _ _ _
-          drawn.popped.0 c.requires.taken drawn.popped.1 c.requires.means.room drawn.words_are
-          t.number_is (ap is_idle t.kind_is) t.shaped t.lowered t.broken t.pops t.pushes
-          (λ whole. rw t.kind_is (drawn.nothing whole));
-      pushes = omega (arith, t.pushes);
-    }
+returns-in-Empty-clause-turn g c = record {
+  means =
+      let held = c.requires.may.equipped.are_held in
+      record {
+        seats = record { labels = held.seats.labels; pool = c.in-Empty.ensures.of_pool };
+        taken_known = known_nothing g.K.Known.is_known _ c.in-Empty.ensures.popped.1;
+        fresh_known = held.fresh_known;
+      };
+  turn =
+      let t = c.idle_turn.ensures in
+      let drawn = c.in-Empty.ensures in
+      record {
+        turn = IsTurn-idle _ _ _ _ _ _ _ _ _ _ _ _ _
+            drawn.popped.0 c.requires.may.none drawn.popped.1 c.requires.may.equipped.room drawn.words_are
+            t.number_is (ap is_idle t.kind_is) t.shaped t.lowered t.broken t.pops t.pushes
+            (λ whole. rw t.kind_is (drawn.nothing whole));
+        pushes = omega (arith, t.pushes);
+      };
+}
 
 pub returns-in-Busy-clause-turn : goal.returns-in-Busy-clause-turn
-returns-in-Busy-clause-turn g c =
-    let t = c.idle_turn-in-Busy.ensures in
-    let drawn = c.in-Busy.ensures in
-    record {
-      turn = IsTurn-idle _ _ _ _ _ _ _ _ _ _ _ _ _
-          drawn.popped.0 c.requires.taken drawn.popped.1 c.requires.means.room drawn.words_are
-          t.number_is (ap is_idle t.kind_is) t.shaped t.lowered t.broken t.pops t.pushes
-          (λ whole. rw t.kind_is (drawn.alone whole));
-      pushes = omega (arith, t.pushes);
-    }
+returns-in-Busy-clause-turn g c = record {
+  means =
+      let held = c.requires.may.equipped.are_held in
+      record {
+        seats = record { labels = held.seats.labels; pool = c.in-Busy.ensures.of_pool };
+        taken_known = known_nothing g.K.Known.is_known _ c.in-Busy.ensures.popped.1;
+        fresh_known = held.fresh_known;
+      };
+  turn =
+      let t = c.idle_turn-in-Busy.ensures in
+      let drawn = c.in-Busy.ensures in
+      record {
+        turn = IsTurn-idle _ _ _ _ _ _ _ _ _ _ _ _ _
+            drawn.popped.0 c.requires.may.none drawn.popped.1 c.requires.may.equipped.room drawn.words_are
+            t.number_is (ap is_idle t.kind_is) t.shaped t.lowered t.broken t.pops t.pushes
+            (λ whole. rw t.kind_is (drawn.alone whole));
+        pushes = omega (arith, t.pushes);
+      };
+}
 
-pub visit_first-end-requires-clause-means : goal.visit_first-end-requires-clause-means
-visit_first-end-requires-clause-means g c κs outlives =
-    let may = c.requires.means in
+pub visit_first-end-requires-clause-may : goal.visit_first-end-requires-clause-may
+visit_first-end-requires-clause-may g c κs outlives =
+    let may = c.requires.may.equipped in
     let t = c.in-Entries.ensures.popped in
     record {
-      is_ground = may.is_ground;
-      target_is = may.target_is;
-      are_held = record {
-        seats = record { labels = may.are_held.seats.labels; pool = c.in-Entries.ensures.of_pool };
-        taken_known = known_turned g.K.Known.is_known _ t.out t.turned t.known_all;
-        fresh_known = may.are_held.fresh_known;
+      equipped = record {
+        is_ground = may.is_ground;
+        target_is = may.target_is;
+        are_held = record {
+          seats = record { labels = may.are_held.seats.labels; pool = c.in-Entries.ensures.of_pool };
+          taken_known = known_turned g.K.Known.is_known _ t.out t.turned t.known_all;
+          fresh_known = may.are_held.fresh_known;
+        };
+        room = may.room;
+        batch_few = may.batch_few;
       };
-      room = may.room;
-      batch_few = may.batch_few;
+      some = took_some g.K.Known.is_known _ _ _ _ _ _ t;
     }
-
-pub visit_first-end-requires-clause-taken : goal.visit_first-end-requires-clause-taken
-visit_first-end-requires-clause-taken g c κs outlives = took_some g.K.Known.is_known _ _ _ _ _ _ c.in-Entries.ensures.popped
-
-pub returns-in-Entries-clause-means : goal.returns-in-Entries-clause-means
-returns-in-Entries-clause-means g c = c.visit_first-end.ensures.means
 
 pub returns-in-Entries-clause-turn : goal.returns-in-Entries-clause-turn
-returns-in-Entries-clause-turn g c =
-    let drawn = c.in-Entries.ensures in
-    record {
-      turn = IsTurn-popped _ _ _ g.K.Known.is_known _ _ _ _ _ _ _ _ _ _ _
-          c.requires.taken drawn.popped drawn.words_are
-          (λ node time known. omega (arith, g.K.Known.within node time known)) c.visit_first-end.ensures.visit;
-      pushes = omega (arith, c.visit_first-end.ensures.visit.visit.pushes);
-    }
+returns-in-Entries-clause-turn g c = record {
+  means = c.visit_first-end.ensures.means;
+  turn =
+      let drawn = c.in-Entries.ensures in
+      record {
+        turn = IsTurn-popped _ _ _ g.K.Known.is_known _ _ _ _ _ _ _ _ _ _ _
+            c.requires.may.none drawn.popped drawn.words_are
+            (λ node time known. omega (arith, g.K.Known.within node time known)) c.visit_first-end.ensures.visit;
+        pushes = omega (arith, c.visit_first-end.ensures.visit.visit.pushes);
+      };
+}
 
 pub returns-in-Empty-clause-saw : goal.returns-in-Empty-clause-saw
 returns-in-Empty-clause-saw g c = rw c.idle_turn.ensures.kind_is c.in-Empty.ensures.looked

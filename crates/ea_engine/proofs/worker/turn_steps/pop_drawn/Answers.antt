@@ -14,7 +14,7 @@ turned_back xs ys e = written (length xs) xs ys refl (ap length e ∙ length-rev
 
 pub pop_some_as-popped-requires-clause-room : goal.pop_some_as-popped-requires-clause-room
 pop_some_as-popped-requires-clause-room g c κs outlives =
-    let may = c.requires.taken in
+    let may = c.requires.may in
     (may.some, omega (arith, ap length may.none, may.few))
 
 pub returns : goal.returns
@@ -22,7 +22,7 @@ returns g c =
     let pops = c.pop_some_as-popped.ensures in
     record {
       of_pool = pops.seat;
-      popped = took_by _ _ _ _ _ _ _ _ _ (with_items c.pop_some_as-popped.new.batch c.reverse.new.self) _ _ _ _ c.requires.taken.none pops.popped
+      popped = took_by _ _ _ _ _ _ _ _ _ (with_items c.pop_some_as-popped.new.batch c.reverse.new.self) _ _ _ _ c.requires.may.none pops.popped
           (turned_back c.pop_some_as-popped.new.batch.items c.reverse.new.self (c.reverse.ensures.after ∙ ap reverse c.deref_mut.ensures.value));
       looked = looked_by _ _ _ _ _ _ _ _ _ c.next_u64-first.ensures c.next_u64-second.ensures pops.looked;
       alone = pops.alone;

@@ -6,14 +6,12 @@ use Rattle.ea_engine.proofs.ProgressLemmas.{OnlySaw-more, OnlySaw-none}
 use Rattle.ea_engine.proofs.BoundLemmas.{IsReachedBefore-noted, least_is_before}
 use Rattle.ea_engine.proofs.worker.visit.is_above_target.Goals as goal
 
-pub returns-in-Some-clause-saw : goal.returns-in-Some-clause-saw
-returns-in-Some-clause-saw g c = record {
-  same_table = c.read.ensures.same_table;
-  saw = OnlySaw-more _ _ _ c.in-Some.node c.read.result (OnlySaw-none _) c.read.ensures.gains;
-}
-
-pub returns-in-Some-clause-cut : goal.returns-in-Some-clause-cut
-returns-in-Some-clause-cut g c = record {
+pub returns-in-Some : goal.returns-in-Some
+returns-in-Some g c = record {
+  saw = record {
+    same_table = c.read.ensures.same_table;
+    saw = OnlySaw-more _ _ _ c.in-Some.node c.read.result (OnlySaw-none _) c.read.ensures.gains;
+  };
   cut = λ above.
       let low : c.read.result < c.args.entry.key = grind (arith, nat_tests) in
       subst (λ t. IsCut t c.read.new.seat.history.bounds c.args.entry) (sym c.in-Some.is)
@@ -24,11 +22,9 @@ returns-in-Some-clause-cut g c = record {
       grind (arith, nat_tests);
 }
 
-pub returns-in-None-clause-saw : goal.returns-in-None-clause-saw
-returns-in-None-clause-saw g c = record { same_table = refl; saw = OnlySaw-none _ }
-
-pub returns-in-None-clause-cut : goal.returns-in-None-clause-cut
-returns-in-None-clause-cut g c = record {
+pub returns-in-None : goal.returns-in-None
+returns-in-None g c = record {
+  saw = record { same_table = refl; saw = OnlySaw-none _ };
   cut = λ above. absurd (false≢true above);
   known = λ cut. absurd (subst (λ t. IsCut t c.args.seat.now.history.bounds c.args.entry) c.in-None.is cut);
 }

@@ -41,17 +41,17 @@ returns-clause-work g c =
     (fresh_of_lowered _ _ _ _ _ _ _ _ _ _ _ _ _ c.turns.invariant.so_far refl)
     c.close.ensures
 
-pub take_turn-end-requires-clause-means : goal.take_turn-end-requires-clause-means
-take_turn-end-requires-clause-means g c κs outlives = record {
-  is_ground = c.requires.ground;
-  target_is = c.target-target.ensures.target ∙ ap (λ q. q.target) c.requires.ground.named.query_is;
-  are_held = c.turns.invariant.held;
-  room = omega (arith, c.turns.invariant.so_far.fresh_left c.turns-test.true);
-  batch_few = omega (arith, c.requires.pace.batch);
+pub take_turn-end-requires-clause-may : goal.take_turn-end-requires-clause-may
+take_turn-end-requires-clause-may g c κs outlives = record {
+  equipped = record {
+    is_ground = c.requires.ground;
+    target_is = c.target-target.ensures.target ∙ ap (λ q. q.target) c.requires.ground.named.query_is;
+    are_held = c.turns.invariant.held;
+    room = omega (arith, c.turns.invariant.so_far.fresh_left c.turns-test.true);
+    batch_few = omega (arith, c.requires.pace.batch);
+  };
+  few = omega (arith, c.turns.invariant.so_far.taken_few);
 }
-
-pub take_turn-end-requires-clause-taken : goal.take_turn-end-requires-clause-taken
-take_turn-end-requires-clause-taken g c κs outlives = omega (arith, c.turns.invariant.so_far.taken_few)
 
 pub close-requires-clause-fresh : goal.close-requires-clause-fresh
 close-requires-clause-fresh g c = fresh_of_lowered _ _ _ _ _ _ _ _ _ _ _ _ _ c.turns.invariant.so_far refl
