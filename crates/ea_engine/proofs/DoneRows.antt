@@ -61,10 +61,10 @@ module _ {K R T E : Type 0} (problem : Problem) (tables : Tables)
   end_of_fresh seats rng tracer (place.Ready r) fresh run = absurd run
   end_of_fresh seats rng tracer place.Running fresh run = absurd run
   end_of_fresh seats rng tracer (place.Done end) fresh run =
-      let w = run.1 in
+      let w = run.work in
       let start : Kit = record { labels = seats.label_seat.history; account = seats.pool_seat.account; words = stream rng; taken = []; fresh = [] } in
       record {
-        fit = run.0;
+        fit = run.seats;
         closed = closed_worked problem shows tables.pool.heaps start _ pace tracer end.tracer end.counters end.hand [] [] w refl refl refl refl
             (record { own = λ f. rw (fresh.lowerings, fresh.pushed) refl; closed = λ e inside. absurd (omega (arith, (rw fresh.popped at inside).1)) });
         inside = w.hand_inside;
@@ -88,14 +88,14 @@ module _ {K R T E : Type 0} (problem : Problem) (tables : Tables)
   end_of_first seats rng tracer seeded waiting (place.Ready r) began run = absurd run
   end_of_first seats rng tracer seeded waiting place.Running began run = absurd run
   end_of_first seats rng tracer seeded waiting (place.Done end) began run =
-      let w = run.1 in
+      let w = run.work in
       let h = began.gathered in
       let start : Kit = record { labels = seats.label_seat.history; account = seats.pool_seat.account; words = stream rng; taken = []; fresh = [] } in
       record {
         end = end;
         is = refl;
         first = record {
-          fit = run.0;
+          fit = run.seats;
           handed = record {
             back = h.back;
             refused = h.refused;
@@ -160,14 +160,16 @@ module _ {K R T E : Type 0} (problem : Problem) (tables : Tables)
 
   -- the workers may start
   pub ready_row : (callable : T → Type 0) (rngs : List R) (tracers : List T) (row : List (Place K R T E)) (rng : R) (tracer : T) (seeded : ℕ) (waiting : List ℕ)
-      → AreSeated problem tables seeded waiting rngs tracers row → All callable tracers → length row ≤ length tracers
+      → AreSeated problem tables seeded waiting rngs tracers row → All callable tracers → length row ≤ length tracers → length row ≤ MOST_WORKERS
       → IsReadyRow tables callable row
-  ready_row callable rngs tracers row rng tracer seeded waiting a may few k d lt =
-      let seats = get_or (a.main ∷ a.fresh) k a.main in
-      subst (λ p. MayStart tables callable p) (sym (a.seated k a.main rng tracer d lt)) (
-        fits k (omega (arith, lt, a.length_is)),
-        may k tracer (omega (arith, lt, few)),
-      )
+  ready_row callable rngs tracers row rng tracer seeded waiting a may few few_workers = record {
+    each = λ k d lt.
+        subst (λ p. MayStart tables callable p) (sym (a.seated k a.main rng tracer d lt)) (
+          fits k (omega (arith, lt, a.length_is)),
+          may k tracer (omega (arith, lt, few)),
+        );
+    few = few_workers;
+  }
     where
       fits : (j : ℕ) → j < suc (length a.fresh) → AreSeatsOf tables (get_or (a.main ∷ a.fresh) j a.main).label_seat (get_or (a.main ∷ a.fresh) j a.main).pool_seat
       fits zero lower = a.seeds.fit
@@ -177,7 +179,7 @@ module _ {K R T E : Type 0} (problem : Problem) (tables : Tables)
   report_of : (p : Place K R T E) (end : WorkerEnd K R T E) (r : R) (t : T) (seats : Seats K E) → p ≡ place.Done end → Runs (place_of seats r t) p
       → IsReport shows problem.network problem.answers problem.query.sources pace (stream r) (stream end.rng) t end.tracer end.counters
   report_of p end r t seats done run =
-      let w = (subst (λ q. Runs (place_of seats r t) q) done run).1 in
+      let w = (subst (λ q. Runs (place_of seats r t) q) done run).work in
       record { turns = w.turns; lawful = w.lawful; shown = w.shown; counted = w.counted; reached = w.reached; words_are = w.progress.words_are }
 
   pub reports_of_row : (rngs : List R) (tracers : List T) (row row' : List (Place K R T E)) (ends : List (WorkerEnd K R T E)) (seeded : ℕ) (waiting : List ℕ) (end : WorkerEnd K R T E)
@@ -205,7 +207,7 @@ module _ {K R T E : Type 0} (problem : Problem) (tables : Tables)
       let d : Place K R T E = place.Running in
       let inside : 0 < length row = omega (arith, len) in
       let run = subst (λ p. Runs p (get_or row' 0 d)) (a.seated 0 a.main rng tracer d inside) (ran 0 d inside) in
-      let w = (subst (λ q. Runs (place_of a.main (get_or rngs 0 rng) (get_or tracers 0 tracer)) q) (ap (λ ps. get_or ps 0 d) done) run).1 in
+      let w = (subst (λ q. Runs (place_of a.main (get_or rngs 0 rng) (get_or tracers 0 tracer)) q) (ap (λ ps. get_or ps 0 d) done) run).work in
       let whole : a.main.pool_seat.account.shares ≡ SHARES = omega (arith, a.pool_shares, a.length_is, len) in
       let account = a.main.pool_seat.account in
       let end_account = end.pool_seat.account in (

@@ -12,7 +12,6 @@ use Rattle.ea_engine.specs.declared.run.row.Place.{Place}
 use Rattle.ea_engine.specs.declared.run.row.Place.TheVariants as place
 use Rattle.ea_engine.specs.declared.worker.work_loop.WorkerEnd.{WorkerEnd}
 use Rattle.ea_engine.specs.Ends.{IsEnd, IsEndPlace}
-use Rattle.ea_engine.specs.Gathered.{AccountForAll}
 use Rattle.ea_engine.specs.Grown.{Joins}
 use Rattle.ea_engine.specs.Seated.{Tables}
 use Rattle.ea_engine.specs.Rowed.{all_done, AreGathered, IsDonePlace}
@@ -81,14 +80,13 @@ module _ {K R T E : Type 0} (problem : Problem) (tables : Tables) where
   -- one more worker
   pub gathered_more : (seeded back : ℕ) (ends : List (WorkerEnd K R T E)) (end : WorkerEnd K R T E) (g h : Gathering K R T E)
       → AreGathered problem tables seeded back ends g
-      → AccountForAll problem tables problem.network.nodes h.seats h.todo
-      → Joins end g h → end.counters.pushed < 2 ^ 62
+      → Joins problem tables end g h → end.counters.pushed < 2 ^ 62
       → AreGathered problem tables seeded back (ends ++ end ∷ []) h
-  gathered_more seeded back ends end g h a account j low =
+  gathered_more seeded back ends end g h a j low =
       let count = length-append ends (end ∷ []) in
       let more = j.results in
       record {
-        account = account;
+        account = j.account;
         offered = λ source among. IsReachedBy-more g.seats.label_seat.history.bounds h.seats.label_seat.history.bounds j.bounds source.node source.departure (a.offered source among);
         counters_are = more.counters ∙ ap (λ xs. xs ++ end.counters ∷ []) a.counters_are ∙ sym (map-append (λ (e : WorkerEnd K R T E). e.counters) ends (end ∷ []));
         rngs_are = more.rngs ∙ ap (λ xs. xs ++ end.rng ∷ []) a.rngs_are ∙ sym (map-append (λ (e : WorkerEnd K R T E). e.rng) ends (end ∷ []));

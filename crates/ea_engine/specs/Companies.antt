@@ -1,5 +1,6 @@
 -- When a worker leaves its company.
-use Rattle.std.specs.Prelude.{◌≡◌, ℕ, ◌+◌, ◌%◌, ◌<◌, ◌≤◌, ◌⊎◌, List, [], ◌∷◌, if◌then◌else◌}
+use Rattle.std.specs.Prelude.{◌≡◌, ℕ, ◌+◌, ◌%◌, ◌<◌, ◌≤◌, ◌⊎◌, Bool, false, List, [], ◌∷◌, if◌then◌else◌}
+use Rattle.ea_engine.specs.declared.worker.company.Company.{Company}
 use Rattle.ea_engine.specs.declared.worker.company.Member.{Member}
 use Rattle.ea_engine.specs.declared.worker.company.TheConstants.{NO_LIMIT}
 use Rattle.ea_engine.specs.declared.worker.turn.Flow.{Flow}
@@ -49,6 +50,12 @@ pub record IsIdleFor (member : Member) (turns : ℕ) : Type 0 where
   pub idle : member.idle ≤ turns
   pub quiet : (member.quiet ≡ 0) ⊎ (member.quiet + 127 ≤ turns)
 
+-- A worker of this company that has not begun.
+pub record HasNotBegun (company : Company) (member : Member) : Type 0 where
+  pub idle : IsIdleFor member 0
+  pub alone : member.alone ≡ 0
+  pub limit : member.company.now.most_falls ≡ company.most_falls
+
 -- The number of consecutive turns without an entry, after one more turn.
 abbrev pub idle_with : ℕ → TurnKind → ℕ
 idle_with idle kind = if is_idle kind then idle + 1 else 0
@@ -78,6 +85,11 @@ pub record KeepsCounts (old new : Member) : Type 0 where
   pub idle : new.idle ≡ old.idle
   pub quiet : new.quiet ≡ old.quiet
   pub alone : new.alone ≡ old.alone
+
+-- Whether several workers still gain time; if not, the company has a limit.
+pub record TellsGain (old new : Member) (gains : Bool) : Type 0 where
+  pub limit : gains ≡ false → old.company.now.most_falls < NO_LIMIT
+  pub rest : KeepsCounts old new
 
 -- Only at a look may a member once more find all others idle.
 abbrev pub LooksOnce : ℕ → Member → Member → Type 0

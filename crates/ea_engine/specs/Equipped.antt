@@ -2,7 +2,7 @@
 use Rattle.std.specs.Prelude.{◌≡◌, ℕ, ◌<◌, ◌≤◌, List, Option, Bool, true, false, [], length}
 use Rattle.arrayvec.specs.ArrayVec.{array_vec_len}
 use Rattle.rand_core.specs.Stream.{Stream}
-use Rattle.ea_base.specs.declared.limits.TheConstants.{MOST_BATCH}
+use Rattle.ea_base.specs.declared.limits.TheConstants.{HORIZON, MOST_BATCH}
 use Rattle.ea_road.specs.Roads.{Roads, IsArc}
 use Rattle.ea_road.specs.declared.arc.Arc.{Arc}
 use Rattle.ea_labels.specs.Core as labels
@@ -11,10 +11,12 @@ use Rattle.ea_pool.specs.declared.heap.entry.Entry.{Entry}
 use Rattle.ea_pool.specs.Seats as pools
 use Rattle.ea_pool.specs.Entries.{AreKnown}
 use Rattle.ea_engine.specs.declared.run.ground.Ground.{Ground}
+use Rattle.ea_engine.specs.declared.settings.Pace.{Pace}
 use Rattle.ea_engine.specs.declared.worker.means.Means.{Means}
 use Rattle.ea_engine.specs.declared.worker.turn.Lists.{Lists}
 use Rattle.ea_engine.specs.Problems.{Problem}
 use Rattle.ea_engine.specs.Grounds.{IsGround, tables_of}
+use Rattle.ea_engine.specs.Limits.{IsPace}
 use Rattle.ea_engine.specs.Seated.{Tables, AreSeatsOf}
 use Rattle.ea_engine.specs.Worked.{kit, Progress}
 
@@ -34,6 +36,12 @@ pub record HoldNothing (lists : Lists) : Type 0 where
   pub taken : lists.taken.items ≡ []
   pub fresh : lists.fresh.items ≡ []
 
+-- An arc of the network that is left within the horizon.
+pub record MayLeave (network : Roads) (departure : ℕ) (arc : Arc) : Type 0 where
+  pub in_time : departure ≤ HORIZON
+  pub number : ℕ
+  pub is_arc : IsArc network number arc
+
 -- A push of all fresh entries with one drawn word: none is left exactly if the pool took all.
 pub record PushesFresh (known : ℕ → ℕ → Type 0) (pool : pools.PoolView) (before after : pools.SeatView) (words words' : Stream) (fresh left : List Entry) (took_all : Bool) : Type 0 where
   pub of_pool : pools.IsSeatOf pool after
@@ -49,6 +57,11 @@ pub record MayPush (known : ℕ → ℕ → Type 0) (pool : pools.PoolView) (sea
   pub fresh_known : AreKnown known fresh
 
 module _ {K T E : Type 0} (known : ℕ → ℕ → Type 0) (problem : Problem) (answers : T → ℕ → ℕ → ℕ → ℕ → Type 0) (classes : T → ℕ) (ground : Ground K T E) where
+  -- The ground is the problem's, and the pace is within the limits.
+  pub record MayWork (pace : Pace) : Type 0 where
+    pub is_ground : IsGround known problem answers classes ground
+    pub is_pace : IsPace pace
+
   -- The seat was made by the label table of the problem's ground.
   pub record MayRead (seat : labels.SeatView) : Type 0 where
     pub is_ground : IsGround known problem answers classes ground

@@ -26,6 +26,11 @@ pub record OpensHand (hand : Hand) (before after : Worklist) : Type 0 where
   pub fresh : (entry : Entry) → Contains hand.fresh.items entry → Contains after.waiting entry.node
   pub opens : OpensUpTo (hand_size hand) before after
 
+-- The node of each of these entries was opened, and they were counted.
+pub record Drains (entries : List Entry) (before after : Worklist) (count : ℕ) : Type 0 where
+  pub drained : OpensAll entries before after
+  pub counted : count ≡ length entries
+
 -- A worklist for this many nodes after this many seeds were handed back: at most as many nodes wait, and at
 -- least one if there was any.
 pub record HoldsBack (nodes back : ℕ) (todo : Worklist) : Type 0 where

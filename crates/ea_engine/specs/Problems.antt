@@ -33,6 +33,11 @@ pub record IsPosed (known : ℕ → ℕ → Type 0) (problem : Problem) : Type 0
   pub target_in : IfSome problem.query.target (λ node. IsNode problem.network.nodes node)
   pub names : (node time : ℕ) → known node time ↔ Reaches problem.network problem.answers problem.query.sources node time
 
+-- The same on a network of this many nodes.
+pub record IsPosedOn (known : ℕ → ℕ → Type 0) (problem : Problem) (nodes : ℕ) : Type 0 where
+  pub posed : IsPosed known problem
+  pub nodes_are : nodes ≡ problem.network.nodes
+
 -- The network and the query are the problem's, the travel times give its answers, and the known pairs are
 -- those that some walk from a source attains.
 pub record IsNamed (known : ℕ → ℕ → Type 0) (problem : Problem) (network : Roads) (answers : ℕ → ℕ → ℕ → ℕ → Type 0) (query : Asking) : Type 0 where

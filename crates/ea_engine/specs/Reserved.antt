@@ -2,7 +2,7 @@
 use Rattle.std.specs.Prelude.{◌≡◌, ℕ, ◌≤◌, [], Bool, Vec, vec_len}
 use Rattle.std.specs.Vec.{vec_capacity}
 use Rattle.ea_labels.specs.Core.{first_record}
-use Rattle.ea_base.specs.declared.limits.TheConstants.{SHARES}
+use Rattle.ea_base.specs.declared.limits.TheConstants.{MOST_WORKERS, SHARES}
 use Rattle.ea_search.specs.Worklist.{Worklist}
 use Rattle.ea_pool.specs.Pools.{Opened}
 use Rattle.ea_pool.specs.Seats.{heaps_of}
@@ -23,6 +23,13 @@ pub record IsEmptyFor {X Z : Type 0} (count : ℕ) (items : Vec X Z) : Type 0 wh
 pub record HaveRoom {K R T E Y Z : Type 0} (workers : ℕ) (others : Vec (Seats K E) Y) (row : Vec (Place K R T E) Z) : Type 0 where
   pub others_empty : IsEmptyFor workers others
   pub row_empty : IsEmptyFor workers row
+
+-- The same for up to the most workers, each with its generator and its tracer.
+pub record MaySeatAll {K R T E W X Y Z : Type 0} (others : Vec (Seats K E) W) (rngs : Vec R X) (tracers : Vec T Y) (row : Vec (Place K R T E) Z) : Type 0 where
+  pub some_worker : 1 ≤ vec_len rngs
+  pub few_workers : vec_len rngs ≤ MOST_WORKERS
+  pub tracers_len : vec_len tracers ≡ vec_len rngs
+  pub room : HaveRoom (vec_len rngs) others row
 
 -- No place yet, and room for these workers, each with its seats, its generator and its tracer.
 pub record MaySeat {K R T E W X Y Z : Type 0} (seats : Vec (Seats K E) W) (rngs : Vec R X) (tracers : Vec T Y) (row : Vec (Place K R T E) Z) : Type 0 where

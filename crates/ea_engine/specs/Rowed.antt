@@ -1,5 +1,5 @@
 -- The results of a row, and those gathered from its first places.
-use Rattle.std.specs.Prelude.{◌≡◌, ℕ, ◌+◌, ◌*◌, ◌^◌, ◌<◌, ◌≤◌, List, [], ◌∷◌, map, length, All, sum_by, Bool}
+use Rattle.std.specs.Prelude.{◌≡◌, ℕ, ◌+◌, ◌*◌, ◌^◌, ◌<◌, ◌≤◌, List, [], ◌∷◌, map, length, All, sum_by, Bool, Vec, vec_len}
 use Rattle.rand_core.specs.Stream.{Stream}
 use Rattle.ea_road.specs.Queries.{Asking}
 use Rattle.ea_road.specs.Roads.{Roads}
@@ -11,6 +11,7 @@ use Rattle.ea_base.specs.declared.limits.TheConstants.{MOST_BATCH, MOST_WORKERS}
 use Rattle.ea_engine.specs.declared.run.gathering.Gathering.{Gathering}
 use Rattle.ea_engine.specs.declared.worker.means.Seats.{Seats}
 use Rattle.ea_engine.specs.declared.run.ran.Ran.{Ran}
+use Rattle.ea_engine.specs.declared.run.seeds.Seeds.{Seeds}
 use Rattle.ea_engine.specs.declared.run.workers.Begun.{Begun}
 use Rattle.ea_engine.specs.declared.run.row.Place.{Place}
 use Rattle.ea_engine.specs.declared.run.row.Place.TheVariants as place
@@ -70,6 +71,11 @@ module _ {K R T E : Type 0} (problem : Problem) (tables : Tables) where
     pub label_shares : main.label_seat.history.shares + length fresh ≡ 64
     pub pool_shares : main.pool_seat.account.shares + length fresh ≡ 64
 
+  -- Each of these workers has its place, and the row is seated if its first seats are those of the seeding.
+  pub record SeatsWorkers {X Y Z : Type 0} (seats : Seats K E) (rngs : Vec R X) (tracers : Vec T Y) (row : Vec (Place K R T E) Z) : Type 0 where
+    pub len : vec_len row ≡ vec_len rngs
+    pub seated : (seeded : ℕ) (waiting : List ℕ) → IsSeeded problem tables seeded waiting seats → AreSeated seeded waiting rngs.items tracers.items row.items
+
   -- Each worker is done: the first one, and those that began with fresh seats.
   pub record IsDoneRow (seeded : ℕ) (waiting : List ℕ) (row : List (Place K R T E)) : Type 0 where
     pub first : WorkerEnd K R T E
@@ -97,12 +103,22 @@ module _ {K R T E : Type 0} (problem : Problem) (tables : Tables) where
     pub few : length gathering.todo.waiting ≤ gathering.returned
     pub some : 0 < gathering.returned → 0 < length gathering.todo.waiting
 
-  -- The gathered results of all workers of a row: the seats have all shares.
-  pub record IsGatheredRow (seeded back : ℕ) (row : List (Place K R T E)) (gathering : Gathering K R T E) : Type 0 where
+  -- The gathered results of all workers of a row: the seats have all shares, and the worklist has storage for
+  -- walks if they are asked for.
+  pub record IsGatheredRow (seeded back : ℕ) (walks : Bool) (row : List (Place K R T E)) (gathering : Gathering K R T E) : Type 0 where
     pub ends : List (WorkerEnd K R T E)
     pub row_is : row ≡ all_done ends
     pub all : AreGathered seeded back ends gathering
-    pub shares : HaveAllShares gathering.seats
+    pub shares : HaveAllShares tables gathering.seats
+    pub walks_are : gathering.todo.walks ≡ walks
+
+-- The seats of all workers are joined: they have all shares, the worklist has what they don't account for, and
+-- each source was offered.
+pub record AreAllJoined {K E : Type 0} (problem : Problem) (tables : Tables) (nodes : ℕ) (seats : Seats K E) (todo : Worklist) : Type 0 where
+  pub account : AccountForAll problem tables nodes seats todo
+  pub shares : HaveAllShares tables seats
+  pub offered : AreOffered problem.query.sources seats.label_seat.history
+  pub few : length seats.pool_seat.account.pushed < 2 ^ 127
 
 -- The tables are closed: the finishing pass may begin, and what was pushed was popped or drained.
 pub record HasSettled (problem : Problem) (account : Account) (before : Worklist) (settled : Settled) : Type 0 where
@@ -131,6 +147,11 @@ module _ {K R T E : Type 0} where
     pub balance : seeded + sum_by (λ end. end.counters.pushed) ends ≡ sum_by (λ end. end.counters.popped) ends + ran.drained
     pub few_open : ran.finish ≤ ran.drained + ran.returned
     pub some_open : 0 < ran.drained + ran.returned → 0 < ran.finish
+
+-- A row was gathered and its pool drained: how the run went, and the finishing pass may begin.
+pub record SettlesRow {K R T E : Type 0} (problem : Problem) (seeds : Seeds) (walks : Bool) (row : List (Place K R T E)) (begun : Begun R T) : Type 0 where
+  pub begun_is : HasBegun problem.network problem.answers problem.query walks begun
+  pub row_is : IsSettledRow seeds.seeded seeds.returned row begun.ran
 
 module _ {K R T E : Type 0} (problem : Problem) (tables : Tables) (stream : R → Stream) (shows : T → Turn → Flow → T → Type 0) (pace : Pace) where
   -- The workers of a row are done, and began as they were seated.

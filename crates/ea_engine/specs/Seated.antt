@@ -34,7 +34,8 @@ kit_with stream means lists = kit_of stream means lists.taken.items lists.fresh.
 abbrev pub kit_left : {K R T E : Type 0} → (R → Stream) → WorkerEnd K R T E → Kit
 kit_left stream end = kit end.label_seat.history end.pool_seat.account (stream end.rng) end.hand.taken.items end.hand.fresh.items
 
--- The seats have all shares of their tables.
-pub record HaveAllShares {K E : Type 0} (seats : Seats K E) : Type 0 where
+-- The seats were made by these tables and have all their shares.
+pub record HaveAllShares {K E : Type 0} (tables : Tables) (seats : Seats K E) : Type 0 where
+  pub fit : AreSeatsOf tables seats.label_seat seats.pool_seat
   pub labels : seats.label_seat.history.shares ≡ SHARES
   pub pool : seats.pool_seat.account.shares ≡ SHARES

@@ -10,10 +10,13 @@ use Rattle.ea_labels.specs.Core.{first_record, lowered, lowering}
 use Rattle.ea_pool.specs.Seats as pools
 use Rattle.ea_pool.specs.declared.shared.account.Account.{Account}
 use Rattle.ea_engine.specs.Closed.{IsReachedBy}
-use Rattle.ea_engine.specs.Gathered.{IsGathered}
+use Rattle.ea_engine.specs.Gathered.{AccountForAll, IsGathered}
+use Rattle.ea_engine.specs.Grounds.{IsGround, tables_of}
 use Rattle.ea_engine.specs.Opened.{AreOffered}
 use Rattle.ea_engine.specs.Openings.{HoldsBack, OpensUpTo}
 use Rattle.ea_engine.specs.Problems.{Problem}
+use Rattle.ea_engine.specs.Seated.{Tables}
+use Rattle.ea_engine.specs.declared.run.ground.Ground.{Ground}
 use Rattle.ea_engine.specs.declared.worker.means.Seats.{Seats}
 use Rattle.ea_engine.specs.declared.run.seeds.Seeded.{Seeded}
 use Rattle.ea_engine.specs.declared.run.seeds.Seeds.{Seeds}
@@ -79,8 +82,14 @@ pub record MayOffer (known : ℕ → ℕ → Type 0) (nodes : ℕ) (source : Sou
   pub node : IsNode nodes source.node
   pub is_known : known source.node source.departure
 
--- What offering a source does to the seats and a worklist.
-pub record HasOffered {K E : Type 0} (seeded : Seeded) (before after : Seats K E) (todo todo' : Worklist) (source : Source) : Type 0 where
+-- The seats account for all, with a worklist for the nodes of the problem's ground.
+pub record MaySeed {K T E : Type 0} (known : ℕ → ℕ → Type 0) (problem : Problem) (answers : T → ℕ → ℕ → ℕ → ℕ → Type 0) (classes : T → ℕ) (ground : Ground K T E) (seats : Seats K E) (todo : Worklist) : Type 0 where
+  pub is_ground : IsGround known problem answers classes ground
+  pub account : AccountForAll problem (tables_of ground) ground.labels.now.nodes seats todo
+
+-- What offering a source does to the seats of these tables and a worklist for this many nodes.
+pub record HasOffered {K E : Type 0} (problem : Problem) (tables : Tables) (nodes : ℕ) (seeded : Seeded) (before after : Seats K E) (todo todo' : Worklist) (source : Source) : Type 0 where
+  pub account : AccountForAll problem tables nodes after todo'
   pub reached : IsReachedBy after.label_seat.history.bounds source.node source.departure
   pub bounds : (b : Bound) → Contains before.label_seat.history.bounds b → Contains after.label_seat.history.bounds b
   pub offers : OffersSeed seeded before.label_seat.history after.label_seat.history source
@@ -103,9 +112,10 @@ pub record IsSeeding (sources : List Source) (before after : Worklist) (seeds : 
   pub walks_are : after.walks ≡ before.walks
 
 -- What offering all sources in their order does to the seats and a worklist.
-pub record HaveOffered {K E : Type 0} (sources : List Source) (before after : Seats K E) (todo todo' : Worklist) (seeds : Seeds) : Type 0 where
-  pub offered : AreOffered sources after.label_seat.history
+pub record HaveOffered {K E : Type 0} (problem : Problem) (tables : Tables) (nodes : ℕ) (before after : Seats K E) (todo todo' : Worklist) (seeds : Seeds) : Type 0 where
+  pub account : AccountForAll problem tables nodes after todo'
+  pub offered : AreOffered problem.query.sources after.label_seat.history
   pub step : HasPushed seeds.seeded before after
   pub opens : OpensUpTo seeds.returned todo todo'
   pub small : seeds.seeded + seeds.returned < 2 ^ 64
-  pub counted : before.label_seat.history ≡ first_record → AreSeeds sources (seeds.seeded + seeds.returned)
+  pub counted : before.label_seat.history ≡ first_record → AreSeeds problem.query.sources (seeds.seeded + seeds.returned)

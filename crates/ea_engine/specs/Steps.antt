@@ -11,6 +11,7 @@ use Rattle.ea_engine.specs.declared.worker.turn.Lists.{Lists}
 use Rattle.ea_engine.specs.declared.worker.turn.TurnEnd.{TurnEnd}
 use Rattle.ea_engine.specs.Equipped.{AreHeld, AreMeans}
 use Rattle.ea_engine.specs.Holds.{IsVisit, IsVisitOf}
+use Rattle.ea_engine.specs.Looks.{first_heap, second_heap, SawAs}
 use Rattle.ea_engine.specs.Problems.{Problem}
 use Rattle.ea_engine.specs.Scans.{IsRelaxed, IsScan}
 use Rattle.ea_engine.specs.Seated.{Tables, kit_of, kit_with}
@@ -41,3 +42,8 @@ module _ {K R E : Type 0} (known : ℕ → ℕ → Type 0) (problem : Problem) (
   pub record TakesTurn (kind : HeapKind) (extra : ℕ) (before : Means K R E) (lists : Lists) (after : Means K R E) (left : Lists) (number : ℕ) (end : TurnEnd) : Type 0 where
     pub means : AreHeld known tables after left
     pub turn : IsTurnWithin problem kind batch tables.pool.heaps extra (kit_with stream before lists) (kit_with stream after left) number end
+
+  -- A turn that pops was taken: what it saw of the two heaps that its words draw.
+  pub record TakesPop (kind : HeapKind) (before : Means K R E) (lists : Lists) (after : Means K R E) (left : Lists) (number : ℕ) (end : TurnEnd) : Type 0 where
+    pub turn : TakesTurn kind 0 before lists after left number end
+    pub saw : SawAs end.turn.kind (first_heap tables.pool.heaps (stream before.rng)) (second_heap tables.pool.heaps (stream before.rng)) before.pool_seat.seen after.pool_seat.seen

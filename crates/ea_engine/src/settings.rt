@@ -1,5 +1,5 @@
 ghost use Rattle.std.specs.Prelude.{◌≡◌};
-ghost use Rattle.ea_engine.specs.Limits.{AreSettings, IsPace, pace_of};
+ghost use Rattle.ea_engine.specs.Limits.{AreSettings, pace_of};
 
 /// The number of workers, the heaps for each, and their pace.
 #[derive(Clone, Copy, Debug, PartialEq, Eq)]
@@ -32,8 +32,7 @@ impl Settings {
     /// The pace of each worker.
     pub fn pace(self) -> Pace
         requires { AreSettings self }
-        ensures pace { result ≡ pace_of self }
-        ensures limits { IsPace result }
+        ensures { result ≡ pace_of self }
     {
         Pace {
             turns: self.turns,

@@ -1,10 +1,7 @@
 //! From the workers' seats to the condition of the finishing pass.
-ghost use Rattle.std.specs.Prelude.{◌≡◌, ◌<◌, ◌^◌, length};
-ghost use Rattle.ea_engine.specs.Gathered.{AccountForAll};
-ghost use Rattle.ea_engine.specs.Opened.{AreOffered};
-ghost use Rattle.ea_engine.specs.Problems.{IsPosed};
-ghost use Rattle.ea_engine.specs.Rowed.{HasSettled};
-ghost use Rattle.ea_engine.specs.Seated.{tables, HaveAllShares};
+ghost use Rattle.ea_engine.specs.Problems.{IsPosedOn};
+ghost use Rattle.ea_engine.specs.Rowed.{AreAllJoined, HasSettled};
+ghost use Rattle.ea_engine.specs.Seated.{tables};
 
 use crate::run::drained::drain;
 use crate::run::problem::Posed;
@@ -31,12 +28,8 @@ pub fn settle<K: Known + Posed, E: EntryHeap>(
     seats: Seats<K, E>,
     mut todo: Open,
 ) -> Settled
-    requires posed { IsPosed K.is_known K.problem }
-    requires places { labels.nodes ≡ K.problem.network.nodes }
-    requires account { AccountForAll K.problem (tables labels pool) labels.nodes seats todo }
-    requires shares { HaveAllShares seats }
-    requires few { length seats.pool_seat.account.pushed < 2 ^ 127 }
-    requires offered { AreOffered K.problem.query.sources seats.label_seat.history }
+    requires posed { IsPosedOn K.is_known K.problem labels.nodes }
+    requires joined { AreAllJoined K.problem (tables labels pool) labels.nodes seats todo }
     ensures { HasSettled K.problem seats.pool_seat.account todo result }
 {
     let Seats {

@@ -1,6 +1,6 @@
 //! Draining a closed pool.
-ghost use Rattle.std.specs.Prelude.{◌≡◌, ◌<◌, ◌^◌, length};
-ghost use Rattle.ea_engine.specs.Openings.{OpensAll};
+ghost use Rattle.std.specs.Prelude.{◌<◌, ◌^◌, length};
+ghost use Rattle.ea_engine.specs.Openings.{Drains};
 ghost use Rattle.ea_engine.specs.Worked.{AreInside};
 
 use ea_pool::{ClosedPool, EntryHeap};
@@ -11,8 +11,7 @@ use std::alloc::Global;
 pub fn drain<E: EntryHeap>(mut closed: ClosedPool<Global, E>, todo: &mut Open) -> u128
     requires nodes { AreInside todo.old.nodes closed }
     requires few { length closed < 2 ^ 128 }
-    ensures drained { OpensAll closed todo.old todo.new }
-    ensures counted { result ≡ length closed }
+    ensures { Drains closed todo.old todo.new result }
 {
     let mut drained = 0u128;
     while let Some(entry) = closed.next_of_any() {

@@ -1,13 +1,9 @@
 //! Gathering the workers' results one by one.
-ghost use Rattle.std.specs.Prelude.{◌≡◌, ◌∷◌, [], ◌<◌, ◌^◌, length, Contains, IfSome, vec_len};
+ghost use Rattle.std.specs.Prelude.{◌≡◌};
 ghost use Rattle.std.specs.Option.{option_to_list};
-ghost use Rattle.ea_road.specs.Roads.{IsNode};
-ghost use Rattle.ea_engine.specs.Ends.{IsEnd};
-ghost use Rattle.ea_engine.specs.Gathered.{AccountForAll};
-ghost use Rattle.ea_engine.specs.Grown.{BeginsWith, HasRoom, Joins};
-ghost use Rattle.ea_engine.specs.Openings.{HoldsBack, OpensUpTo, OpensAll, OpensHand};
-ghost use Rattle.ea_engine.specs.Reserved.{AreUnfilled};
-ghost use Rattle.ea_engine.specs.Rowed.{IsFirstEnd, IsDoneRow, AreGathered, IsDonePlace, IsGatheredRow};
+ghost use Rattle.ea_engine.specs.Grown.{BeginsWith, Joins, MayGather, MayGatherRow, MayJoin};
+ghost use Rattle.ea_engine.specs.Openings.{OpensAll, OpensHand};
+ghost use Rattle.ea_engine.specs.Rowed.{IsDonePlace, IsFirstEnd, IsGatheredRow};
 ghost use Rattle.ea_engine.specs.Seated.{tables};
 ghost use Rattle.ea_engine.specs.Worked.{AreInside, IsHandInside};
 
@@ -36,9 +32,8 @@ pub struct Gathering<K: Known, R, F, E: EntryHeap = LeastHeap<Global>> {
 
 /// Opens the node of an entry, if there is one.
 pub fn keep(todo: &mut Open, entry: Option<Entry>)
-    requires { IfSome entry (λ e. IsNode todo.old.nodes e.node) }
-    ensures waits { IfSome entry (λ e. Contains todo.new.waiting e.node) }
-    ensures opens { OpensUpTo (length (option_to_list entry)) todo.old todo.new }
+    requires { AreInside todo.old.nodes (option_to_list entry) }
+    ensures { OpensAll (option_to_list entry) todo.old todo.new }
 {
     if let Some(entry) = entry {
         todo.add(entry.node);
@@ -72,14 +67,8 @@ pub fn join_end<K: Known + Posed, E: EntryHeap, R: Drop, F: Drop>(
     gathering: &mut Gathering<K, R, F, E>,
     end: WorkerEnd<K, R, F, E>,
 )
-    requires account { AccountForAll K.problem (tables labels.now pool.now)
-        K.problem.network.nodes gathering.old.seats gathering.old.todo }
-    requires room { HasRoom gathering.old.results }
-    requires returned { gathering.old.returned < 2 ^ 127 }
-    requires end { IsEnd K.problem (tables labels.now pool.now) end }
-    ensures account { AccountForAll K.problem (tables labels.now pool.now)
-        K.problem.network.nodes gathering.new.seats gathering.new.todo }
-    ensures joins { Joins end gathering.old gathering.new }
+    requires may { MayJoin K.problem (tables labels.now pool.now) gathering.old end }
+    ensures { Joins K.problem (tables labels.now pool.now) end gathering.old gathering.new }
 {
     let WorkerEnd {
         label_seat,
@@ -108,11 +97,8 @@ pub fn begin_gathering<K: Known + Posed, E: EntryHeap, R: Drop, F: Drop>(
     mut results: Results<R, F>,
 ) -> Gathering<K, R, F, E>
     requires end { IsFirstEnd K.problem (tables labels.now pool.now) seeds.seeded todo.waiting end }
-    requires todo { HoldsBack K.problem.network.nodes seeds.returned todo }
-    requires results { AreUnfilled 1 results }
-    ensures gathered { AreGathered K.problem (tables labels.now pool.now)
-        seeds.seeded seeds.returned (end ∷ []) result }
-    ensures begins { BeginsWith end todo results result }
+    requires gather { MayGather K.problem.network.nodes seeds.returned 1 todo results }
+    ensures { BeginsWith K.problem (tables labels.now pool.now) end seeds todo results result }
 {
     let WorkerEnd {
         label_seat,
@@ -160,13 +146,9 @@ pub fn gather_row<K: Known + Posed, E: EntryHeap, R: Drop, F: Drop>(
     todo: Open,
     results: Results<R, F>,
 ) -> Gathering<K, R, F, E>
-    requires row { IsDoneRow K.problem (tables labels.now pool.now)
-        seeds.seeded todo.waiting row.items }
-    requires todo { HoldsBack K.problem.network.nodes seeds.returned todo }
-    requires results { AreUnfilled (vec_len row) results }
-    ensures gathered { IsGatheredRow K.problem (tables labels.now pool.now)
-        seeds.seeded seeds.returned row.items result }
-    ensures walks { result.todo.walks ≡ todo.walks }
+    requires row { MayGatherRow K.problem (tables labels.now pool.now) row seeds todo results }
+    ensures { IsGatheredRow K.problem (tables labels.now pool.now)
+        seeds.seeded seeds.returned todo.walks row.items result }
 {
     let mut places = row.into_iter();
     let Some(place) = places.next() else {

@@ -1,7 +1,6 @@
 //! A run up to its least arrivals, with the problem and the known pairs named by a type.
-ghost use Rattle.std.specs.Prelude.{◌≡◌, ◌<◌, false, true, IfOk};
-ghost use Rattle.ea_engine.specs.Problems.{IsNamedProblem};
-ghost use Rattle.ea_engine.specs.Runs.{IsCrew, IsEnded};
+ghost use Rattle.std.specs.Prelude.{◌≡◌, ◌↔◌, ◌⊎◌, IsTrue, IfOk};
+ghost use Rattle.ea_engine.specs.Runs.{IsEnded, IsNamedCall};
 
 use crate::laws::times_are_fifo;
 use crate::run::arrays::Arrays;
@@ -46,9 +45,8 @@ fn run_with<
     crew: Crew<R, G, F>,
     walks: bool,
 ) -> Result<Ended<R, F>, AllocError>
-    requires named { IsNamedProblem K.is_known K.problem network.now
-        (T.answers times.now) (T.classes times.now) query.now }
-    requires crew { IsCrew F.IsAlwaysCallable crew }
+    requires call { IsNamedCall K.is_known K.problem network.now
+        (T.answers times.now) (T.classes times.now) query.now F.IsAlwaysCallable crew }
     ensures { IfOk result (λ ended. IsEnded R.stream F.step network.now (T.answers times.now)
         query.now crew.entry walks ended) }
 {
@@ -68,9 +66,7 @@ fn run_with<
 
 /// Whether heaps give their least entry first: for batches of one entry, or a single worker.
 fn takes_least(settings: Settings) -> bool
-    ensures one { settings.batch ≡ 1 → result ≡ true }
-    ensures alone { settings.workers ≡ 1 → result ≡ true }
-    ensures several { 1 < settings.batch → 1 < settings.workers → result ≡ false }
+    ensures { IsTrue result ↔ ((settings.batch ≡ 1) ⊎ (settings.workers ≡ 1)) }
 {
     settings.batch == 1 || settings.workers == 1
 }
@@ -94,9 +90,8 @@ pub fn run_named<
     crew: Crew<R, G, F>,
     walks: bool,
 ) -> Result<Ended<R, F>, AllocError>
-    requires named { IsNamedProblem K.is_known K.problem network.now
-        (T.answers times.now) (T.classes times.now) query.now }
-    requires crew { IsCrew F.IsAlwaysCallable crew }
+    requires call { IsNamedCall K.is_known K.problem network.now
+        (T.answers times.now) (T.classes times.now) query.now F.IsAlwaysCallable crew }
     ensures { IfOk result (λ ended. IsEnded R.stream F.step network.now (T.answers times.now)
         query.now crew.entry walks ended) }
 {

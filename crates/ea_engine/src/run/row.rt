@@ -1,7 +1,6 @@
-ghost use Rattle.std.specs.Prelude.{◌<◌, ◌≤◌, ◌^◌, length};
-ghost use Rattle.ea_base.specs.declared.limits.TheConstants.{MOST_WORKERS};
-ghost use Rattle.ea_engine.specs.Grounds.{IsGround, tables_of};
-ghost use Rattle.ea_engine.specs.Limits.{IsPace};
+ghost use Rattle.std.specs.Prelude.{◌<◌, ◌^◌};
+ghost use Rattle.ea_engine.specs.Equipped.{MayWork};
+ghost use Rattle.ea_engine.specs.Grounds.{tables_of};
 ghost use Rattle.ea_engine.specs.Rows.{MayStart, IsRun, IsReadyRow, IsRunRow};
 
 use crate::run::ground::Ground;
@@ -44,9 +43,8 @@ pub fn run_place<
     G: Gate,
     F: FnMut(Turn) -> Flow + Drop,
 >(ground: &Ground<'_, K, T, E>, worker: u32, pace: Pace, gate: &G, place: &mut Place<K, R, F, E>)
-    requires ground { IsGround K.is_known K.problem T.answers T.classes ground.now }
+    requires may { MayWork K.is_known K.problem T.answers T.classes ground.now pace }
     requires ready { MayStart (tables_of ground.now) F.IsAlwaysCallable place.old }
-    requires pace { IsPace pace }
     ensures run { IsRun K.problem (tables_of ground.now) R.stream F.step pace place.old place.new }
 {
     if let Place::Ready(ready) = mem::replace(place, Place::Running) {
@@ -65,15 +63,13 @@ pub fn run_workers<
     G: Gate,
     F: FnMut(Turn) -> Flow + Send + Drop,
 >(rt: &H, ground: &Ground<'_, K, T, E>, pace: Pace, gate: &G, row: &mut [Place<K, R, F, E>])
-    requires ground { IsGround K.is_known K.problem T.answers T.classes ground.now }
+    requires may { MayWork K.is_known K.problem T.answers T.classes ground.now pace }
     requires ready { IsReadyRow (tables_of ground.now) F.IsAlwaysCallable row.old }
-    requires few { length row.old ≤ MOST_WORKERS }
-    requires pace { IsPace pace }
     ensures run { IsRunRow K.problem (tables_of ground.now) R.stream F.step pace row.old row.new }
 {
     let run_one = |worker: usize, place: &mut Place<K, R, F, E>|
-        requires { (worker < 2 ^ 32) × IsPace pace
-            × IsGround K.is_known K.problem T.answers T.classes ground.now
+        requires { (worker < 2 ^ 32)
+            × MayWork K.is_known K.problem T.answers T.classes ground.now pace
             × MayStart (tables_of ground.now) F.IsAlwaysCallable place.now }
         ensures { IsRun K.problem (tables_of ground.entry.now) R.stream F.step pace
             place.entry.now place.exit.now }

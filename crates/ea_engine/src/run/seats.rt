@@ -1,8 +1,8 @@
 //! The seats of the workers, and their row.
-ghost use Rattle.ea_engine.specs.Reserved.{HaveSeated, IsEmptyFor, MaySeat};
+ghost use Rattle.ea_engine.specs.Reserved.{HaveSeated, MaySeat};
 ghost use Rattle.ea_engine.specs.Rows.{IsSeated};
 ghost use Rattle.ea_engine.specs.Seated.{tables};
-ghost use Rattle.ea_engine.specs.Splits.{HasSplit, MayGive};
+ghost use Rattle.ea_engine.specs.Splits.{HasSplit, MaySplit};
 
 use crate::run::row::{Place, Ready};
 use crate::worker::means::{Means, Seats};
@@ -19,8 +19,7 @@ pub fn split_seats<K: Known, E: EntryHeap>(
     count: usize,
     others: &mut Vec<Seats<K, E>>,
 )
-    requires seats { MayGive (tables labels.now pool.now) count seats.old }
-    requires others { IsEmptyFor count others.old }
+    requires may { MaySplit (tables labels.now pool.now) count seats.old others.old }
     ensures { HasSplit (tables labels.now pool.now) count seats.old seats.new
         others.old others.new }
 {

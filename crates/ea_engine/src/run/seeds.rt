@@ -1,8 +1,8 @@
 //! Pushing the sources' entries, before any worker starts.
 ghost use Rattle.ea_pool.specs.Seats.{IsSeatOf};
 ghost use Rattle.ea_engine.specs.Gathered.{AccountForAll};
-ghost use Rattle.ea_engine.specs.Grounds.{IsGround, tables_of};
-ghost use Rattle.ea_engine.specs.Seeds.{HasOffered, HasSown, HaveOffered, MayOffer};
+ghost use Rattle.ea_engine.specs.Grounds.{tables_of};
+ghost use Rattle.ea_engine.specs.Seeds.{HasOffered, HasSown, HaveOffered, MayOffer, MaySeed};
 
 use crate::run::ground::Ground;
 use crate::run::problem::Posed;
@@ -44,9 +44,8 @@ pub fn seed<K: Known + Posed, E: EntryHeap, T: TravelTimes>(
     requires account { AccountForAll K.problem (tables_of ground.now)
         ground.now.labels.now.nodes seats.old todo.old }
     requires source { MayOffer K.is_known ground.now.labels.now.nodes source }
-    ensures account { AccountForAll K.problem (tables_of ground.now)
-        ground.now.labels.now.nodes seats.new todo.new }
-    ensures offered { HasOffered result seats.old seats.new todo.old todo.new source }
+    ensures { HasOffered K.problem (tables_of ground.now) ground.now.labels.now.nodes
+        result seats.old seats.new todo.old todo.new source }
 {
     let offered = ground
         .labels
@@ -89,13 +88,10 @@ pub fn seed_all<K: Known + Posed, E: EntryHeap, T: TravelTimes>(
     seats: &mut Seats<K, E>,
     todo: &mut Open,
 ) -> Seeds
-    requires ground { IsGround K.is_known K.problem T.answers T.classes ground.now }
-    requires account { AccountForAll K.problem (tables_of ground.now)
-        ground.now.labels.now.nodes seats.old todo.old }
-    ensures account { AccountForAll K.problem (tables_of ground.now)
-        ground.now.labels.now.nodes seats.new todo.new }
-    ensures offered { HaveOffered K.problem.query.sources seats.old seats.new
-        todo.old todo.new result }
+    requires may { MaySeed K.is_known K.problem T.answers T.classes ground.now
+        seats.old todo.old }
+    ensures { HaveOffered K.problem (tables_of ground.now) ground.now.labels.now.nodes
+        seats.old seats.new todo.old todo.new result }
 {
     let mut seeded = 0u128;
     let mut returned = 0u128;

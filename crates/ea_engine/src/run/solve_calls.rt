@@ -4,7 +4,7 @@ ghost use Rattle.ea_travel_times.specs.Answers.{IsFifoFunction};
 ghost use Rattle.ea_road.specs.Queries.{IsProblem};
 ghost use Rattle.ea_search.specs.Answers.{HasArrivals, IsAnswer};
 ghost use Rattle.ea_engine.specs.Limits.{AreSettings};
-ghost use Rattle.ea_engine.specs.Runs.{IsRunOf, ran_of};
+ghost use Rattle.ea_engine.specs.Runs.{IsRunOf, ran_of, solved_of};
 
 use crate::run::crew::Crew;
 use crate::run::known_run::{Ended, run_named};
@@ -23,8 +23,7 @@ use std::thread::Threads;
 impl<R, T> Solved<R, T> {
     // The answer, and how the run went.
     fn of(answer: Answer, ran: Ran<R, T>) -> Solved<R, T>
-        ensures answer { result.answer ≡ answer }
-        ensures ran { ran_of result ≡ ran }
+        ensures { result ≡ solved_of answer ran }
     {
         let Ran {
             seeded,

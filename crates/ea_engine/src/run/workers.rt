@@ -1,15 +1,14 @@
 //! A run of the workers, from the seeds to the condition of the finishing pass.
-ghost use Rattle.std.specs.Prelude.{◌≡◌, ◌≤◌, ◌+◌, ◌*◌, ◌^◌, ◌<◌, ℕ, ◌∷◌, List, vec_len};
+ghost use Rattle.std.specs.Prelude.{◌≡◌, ◌+◌, ◌*◌, ◌^◌, ◌<◌, ◌∷◌, vec_len};
 ghost use Rattle.std.specs.Vec.{vec_capacity};
-ghost use Rattle.ea_base.specs.declared.limits.TheConstants.{MOST_WORKERS};
 ghost use Rattle.ea_engine.specs.Grounds.{IsGround, tables_of};
+ghost use Rattle.ea_engine.specs.Grown.{MayGatherRow};
 ghost use Rattle.ea_engine.specs.Limits.{pace_of};
-ghost use Rattle.ea_engine.specs.Openings.{HoldsBack};
-ghost use Rattle.ea_engine.specs.Problems.{IsNamedProblem, IsPosed};
-ghost use Rattle.ea_engine.specs.Reserved.{AreArrays, AreReserved, AreUnfilled, HaveRoom};
-ghost use Rattle.ea_engine.specs.Rowed.{AreSeated, HaveWorked, HasBegun, IsDoneRow, IsSeeded, IsSettledRow};
-ghost use Rattle.ea_engine.specs.Runs.{IsCrew, IsRunOf};
-ghost use Rattle.ea_engine.specs.Seated.{tables, AreSeatsOf, HaveAllShares};
+ghost use Rattle.ea_engine.specs.Problems.{IsPosedOn};
+ghost use Rattle.ea_engine.specs.Reserved.{AreArrays, AreReserved, MaySeatAll};
+ghost use Rattle.ea_engine.specs.Rowed.{HaveWorked, SeatsWorkers, SettlesRow};
+ghost use Rattle.ea_engine.specs.Runs.{HasRun, IsCrew, IsNamedCall};
+ghost use Rattle.ea_engine.specs.Seated.{tables, HaveAllShares};
 ghost use Rattle.ea_engine.specs.Seeds.{IsSeeding};
 
 use crate::laws::ground_is_laid;
@@ -45,16 +44,9 @@ pub fn seat_workers<K: Known + Posed, E: EntryHeap + Send + Sync, R: Drop, F: Dr
     tracers: Vec<F>,
     row: &mut Vec<Place<K, R, F, E>>,
 )
-    requires fit { AreSeatsOf (tables labels.now pool.now) seats.label_seat seats.pool_seat }
-    requires shares { HaveAllShares seats }
-    requires workers { (1 ≤ vec_len rngs) × (vec_len rngs ≤ MOST_WORKERS)
-        × (vec_len tracers ≡ vec_len rngs) }
-    requires room { HaveRoom (vec_len rngs) others row.old }
-    ensures len { vec_len row.new ≡ vec_len rngs }
-    ensures seated { (seeded : ℕ) (waiting : List ℕ)
-        → IsSeeded K.problem (tables labels.now pool.now) seeded waiting seats
-        → AreSeated K.problem (tables labels.now pool.now) seeded waiting
-        rngs.items tracers.items row.new.items }
+    requires shares { HaveAllShares (tables labels.now pool.now) seats }
+    requires may { MaySeatAll others rngs tracers row.old }
+    ensures { SeatsWorkers K.problem (tables labels.now pool.now) seats rngs tracers row.new }
 {
     split_seats(labels, pool, &mut seats, rngs.len() - 1, &mut others);
     put_first(&mut others, seats);
@@ -103,7 +95,6 @@ fn work_row<
         crew.settings.workers seats todo.old others row.old }
     requires crew { IsCrew F.IsAlwaysCallable crew }
     ensures seeding { IsSeeding K.problem.query.sources todo.old todo.new result }
-    ensures len { vec_len row.new ≡ crew.entry.settings.workers }
     ensures worked { HaveWorked K.problem (tables_of ground.now) R.stream F.step
         (pace_of crew.entry.settings) result.seeded todo.new.waiting
         crew.entry.rngs.items crew.entry.tracers.items row.new.items }
@@ -137,15 +128,10 @@ fn settle_row<K: Known + Posed, E: EntryHeap, R: Drop, F: Drop>(
     todo: Open,
     results: Results<R, F>,
 ) -> Begun<R, F>
-    requires posed { IsPosed K.is_known K.problem }
-    requires places { labels.nodes ≡ K.problem.network.nodes }
-    requires row { IsDoneRow K.problem (tables labels pool) seeds.seeded todo.waiting row.items }
-    requires todo { HoldsBack labels.nodes seeds.returned todo }
+    requires posed { IsPosedOn K.is_known K.problem labels.nodes }
+    requires row { MayGatherRow K.problem (tables labels pool) row seeds todo results }
     requires small { seeds.seeded + seeds.returned < 2 ^ 64 }
-    requires results { AreUnfilled (vec_len row) results }
-    ensures begun { HasBegun K.problem.network K.problem.answers K.problem.query
-        todo.walks result }
-    ensures row { IsSettledRow seeds.seeded seeds.returned row.items result.ran }
+    ensures { SettlesRow K.problem seeds todo.walks row.items result }
 {
     let Gathering {
         seats,
@@ -185,15 +171,12 @@ pub fn run<
     arrays: Arrays<K, R, F, E>,
     crew: Crew<R, G, F>,
 ) -> Begun<R, F>
-    requires named { IsNamedProblem K.is_known K.problem network.now
-        (T.answers times.now) (T.classes times.now) query.now }
-    requires crew { IsCrew F.IsAlwaysCallable crew }
+    requires call { IsNamedCall K.is_known K.problem network.now
+        (T.answers times.now) (T.classes times.now) query.now F.IsAlwaysCallable crew }
     requires arrays { AreArrays network.now.nodes (crew.settings.workers * crew.settings.heaps)
         crew.settings.workers arrays.todo.walks arrays }
-    ensures begun { HasBegun network.now (T.answers times.now) query.now
-        arrays.todo.walks result }
-    ensures run { IsRunOf R.stream F.step network.now (T.answers times.now) query.now
-        crew.entry result.ran }
+    ensures { HasRun R.stream F.step network.now (T.answers times.now) query.now
+        crew.entry arrays.todo.walks result }
 {
     let Arrays {
         labels,

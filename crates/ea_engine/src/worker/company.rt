@@ -1,7 +1,7 @@
 //! Termination detection: workers notice together that nothing is left to do.
-ghost use Rattle.std.specs.Prelude.{◌≡◌, ℕ, ◌+◌, ◌/◌, ◌<◌, false};
-ghost use Rattle.ea_engine.specs.Companies.{idle_with, IsIdleFor, KeepsCounts, LeavesAs};
-ghost use Rattle.ea_engine.specs.Companies.{FindsEntry, FindsNothing, LooksOnce, LooksRound};
+ghost use Rattle.std.specs.Prelude.{◌≡◌, ℕ, ◌+◌, ◌/◌};
+ghost use Rattle.ea_engine.specs.Companies.{HasNotBegun, idle_with, IsIdleFor, KeepsCounts, LeavesAs};
+ghost use Rattle.ea_engine.specs.Companies.{FindsEntry, FindsNothing, LooksOnce, LooksRound, TellsGain};
 
 use crate::worker::turn::{Flow, Turn, TurnKind};
 use std::sync::atomic::Ordering::SeqCst;
@@ -114,9 +114,7 @@ impl Company {
 
     /// A worker that has not begun.
     pub fn member(&self) -> Member<'_>
-        ensures idle { IsIdleFor result 0 }
-        ensures alone { result.alone ≡ 0 }
-        ensures limit { result.company.now.most_falls ≡ self.now.most_falls }
+        ensures { HasNotBegun self.now result }
     {
         Member {
             company: self,
@@ -216,8 +214,7 @@ impl Member<'_> {
     /// Adds the counts since the last look to the company's. Returns whether several workers still gain time.
     #[inline(never)]
     fn gains(&mut self) -> bool
-        ensures limit { result ≡ false → self.old.company.now.most_falls < NO_LIMIT }
-        ensures rest { KeepsCounts self.old self.new }
+        ensures { TellsGain self.old self.new result }
     {
         let (falls, visits, waits) = (self.falls, self.visits, self.waits);
         self.falls = 0;

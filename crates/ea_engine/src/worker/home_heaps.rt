@@ -1,8 +1,7 @@
 //! Random words that mostly draw a worker's own heaps.
-ghost use Rattle.std.specs.Prelude.{◌≡◌, ◌+◌, ◌-◌, ◌%◌, ◌<◌, ◌≤◌};
+ghost use Rattle.std.specs.Prelude.{◌+◌, ◌<◌, ◌≤◌};
 ghost use Rattle.rand_core.specs.Steps.{stream_of, steps_u64_low};
-ghost use Rattle.ea_engine.specs.Homes.{homing_step, IsAtHome};
-ghost use Rattle.ea_base.specs.declared.limits.TheConstants.{LEAST_HEAPS, MOST_HEAPS, MOST_WORKERS};
+ghost use Rattle.ea_engine.specs.Homes.{homing_step, IsAtHome, IsHome, IsWordAt};
 
 use rand_core::utils::NextWord;
 use rand_core::{Rng, utils};
@@ -34,8 +33,7 @@ pub struct Homing<R> {
 /// heap `heap`; as the second, the heap `step + 1` behind the first.
 fn word_at(heaps: u32, step: u32, heap: u32) -> u32
     requires { (heap < heaps) × (step + 1 < heaps) × (heaps ≤ 128) }
-    ensures draws { result % heaps ≡ heap }
-    ensures leads { result % (heaps - 1) ≡ step }
+    ensures { IsWordAt heaps step heap result }
 {
     step + (heaps - 1) * ((step + heaps - heap) % heaps)
 }
@@ -43,8 +41,7 @@ fn word_at(heaps: u32, step: u32, heap: u32) -> u32
 impl<R> Homing<R> {
     /// Words for a worker by its number, from 0, and the number of heaps for each worker.
     pub fn new(below: R, worker: u32, workers: u32, heaps: u32) -> Homing<R>
-        requires worker { (worker < workers) × (workers ≤ MOST_WORKERS) }
-        requires heaps { (LEAST_HEAPS ≤ heaps) × (heaps ≤ MOST_HEAPS) }
+        requires { IsHome worker workers heaps }
         ensures { IsAtHome below worker workers heaps result }
     {
         let all = workers * heaps;

@@ -1,7 +1,4 @@
-ghost use Rattle.std.specs.Prelude.{ℕ, ◌≤◌};
-ghost use Rattle.ea_base.specs.declared.limits.TheConstants.{HORIZON};
-ghost use Rattle.ea_road.specs.Roads.{IsArc};
-ghost use Rattle.ea_engine.specs.Equipped.{MayRead, MayRelax, MayScan};
+ghost use Rattle.ea_engine.specs.Equipped.{MayLeave, MayRead, MayRelax, MayScan};
 ghost use Rattle.ea_engine.specs.Grounds.{tables_of};
 ghost use Rattle.ea_engine.specs.Reads.{TellsFollowed};
 ghost use Rattle.ea_engine.specs.Steps.{Relaxes, ScansEntry};
@@ -50,8 +47,7 @@ fn is_ahead<K: Known + Posed, E: EntryHeap, T: TravelTimes>(
     arc: Arc,
 ) -> bool
     requires seat { MayRead K.is_known K.problem T.answers T.classes ground.now seat.old }
-    requires departure { departure ≤ HORIZON }
-    requires arc { (number : ℕ) × IsArc K.problem.network number arc }
+    requires arc { MayLeave K.problem.network departure arc }
     ensures { TellsFollowed K.problem seat.old seat.new departure arc result }
 {
     if arc.class == 0 {

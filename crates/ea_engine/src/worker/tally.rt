@@ -1,6 +1,6 @@
-ghost use Rattle.std.specs.Prelude.{◌≡◌, ◌≤◌};
+ghost use Rattle.std.specs.Prelude.{◌≡◌};
 ghost use Rattle.arrayvec.specs.ArrayVec.{array_vec_len};
-ghost use Rattle.ea_engine.specs.Turns.{closed_by, counted, AreNoCounts, IsCountable, IsRoomy};
+ghost use Rattle.ea_engine.specs.Turns.{closed_by, counted, AreNoCounts, MayCloseBy, MayCount};
 
 use crate::worker::counters::Counters;
 use crate::worker::turn::{Hand, TurnEnd, TurnKind};
@@ -30,8 +30,7 @@ impl Counters {
 
     /// Counts a turn.
     pub(crate) fn count(&mut self, end: &TurnEnd)
-        requires room { IsRoomy self.old }
-        requires end { IsCountable end.now }
+        requires { MayCount self.old end.now }
         ensures { self.new ≡ counted self.old end.now }
     {
         self.turns += 1;
@@ -50,8 +49,7 @@ impl Counters {
 
     /// Counts what the worker hands back.
     pub(crate) fn close(&mut self, hand: &Hand)
-        requires room { IsRoomy self.old }
-        requires fresh { array_vec_len hand.now.fresh ≤ self.old.lowered }
+        requires { MayCloseBy (array_vec_len hand.now.fresh) self.old }
         ensures { self.new ≡ closed_by (array_vec_len hand.now.taken)
             (array_vec_len hand.now.fresh) self.old }
     {

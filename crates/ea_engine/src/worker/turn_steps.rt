@@ -4,8 +4,7 @@ ghost use Rattle.arrayvec.specs.ArrayVec.{array_vec_len};
 ghost use Rattle.ea_engine.specs.Equipped.{HoldNothing, MayPop, MayTurn, MayVisit};
 ghost use Rattle.ea_engine.specs.Grounds.{tables_of};
 ghost use Rattle.ea_engine.specs.Holds.{MayTake, PopsDrawn};
-ghost use Rattle.ea_engine.specs.Looks.{first_heap, second_heap, SawAs};
-ghost use Rattle.ea_engine.specs.Steps.{TakesTurn, VisitsTaken};
+ghost use Rattle.ea_engine.specs.Steps.{TakesPop, TakesTurn, VisitsTaken};
 ghost use Rattle.ea_engine.specs.Turns.{is_refused};
 
 use crate::run::ground::Ground;
@@ -110,12 +109,8 @@ fn pop_and_visit<K: Known + Posed, E: EntryHeap, T: TravelTimes, R: Rng>(
 ) -> TurnEnd
     requires may { MayPop K.is_known K.problem T.answers T.classes ground.now
         target batch means.old lists.old }
-    ensures turn { TakesTurn K.is_known K.problem (tables_of ground.now) R.stream batch E.kind 0
+    ensures { TakesPop K.is_known K.problem (tables_of ground.now) R.stream batch E.kind
         means.old lists.old means.new lists.new number result }
-    ensures saw { SawAs result.turn.kind
-        (first_heap (tables_of ground.now).pool.heaps (R.stream means.old.rng))
-        (second_heap (tables_of ground.now).pool.heaps (R.stream means.old.rng))
-        means.old.pool_seat.seen means.new.pool_seat.seen }
 {
     match pop_drawn(
         ground.pool,

@@ -1,10 +1,10 @@
-ghost use Rattle.std.specs.Prelude.{◌≡◌, ℕ, ◌+◌, ◌<◌, ◌≤◌, [], ◌||◌, if◌then◌else◌};
+ghost use Rattle.std.specs.Prelude.{◌≡◌, ◌+◌, ◌<◌, ◌||◌, if◌then◌else◌};
 ghost use Rattle.ea_base.specs.declared.limits.TheConstants.{MOST_PATIENCE};
-ghost use Rattle.ea_engine.specs.Grounds.{IsGround, tables_of};
-ghost use Rattle.ea_engine.specs.Limits.{IsPace};
-ghost use Rattle.ea_engine.specs.Seated.{AreSeatsOf, kit_of, kit_left};
+ghost use Rattle.ea_engine.specs.Equipped.{MayWork};
+ghost use Rattle.ea_engine.specs.Grounds.{tables_of};
+ghost use Rattle.ea_engine.specs.Rows.{HasWorked};
+ghost use Rattle.ea_engine.specs.Seated.{AreSeatsOf};
 ghost use Rattle.ea_engine.specs.Turns.{is_idle, is_refused, is_leave};
-ghost use Rattle.ea_engine.specs.Worked.{IsWork};
 
 use crate::run::ground::Ground;
 use crate::run::problem::Posed;
@@ -85,14 +85,11 @@ pub fn work<
     gate: &G,
     mut tracer: F,
 ) -> WorkerEnd<K, R, F, E>
-    requires ground { IsGround K.is_known K.problem T.answers T.classes ground.now }
+    requires may { MayWork K.is_known K.problem T.answers T.classes ground.now pace }
     requires seats { AreSeatsOf (tables_of ground.now) means.label_seat means.pool_seat }
     requires tracer { F.IsAlwaysCallable tracer }
-    requires pace { IsPace pace }
-    ensures seats { AreSeatsOf (tables_of ground.now) result.label_seat result.pool_seat }
-    ensures work { IsWork K.problem F.step (tables_of ground.now).pool.heaps
-        (kit_of R.stream means [] []) (kit_left R.stream result)
-        pace tracer result.tracer result.counters result.hand }
+    ensures { HasWorked K.problem (tables_of ground.now) R.stream F.step pace
+        means tracer result }
 {
     let target = ground.query.target();
     let among_several = means.pool_seat.shares() < ea_pool::SHARES;

@@ -13,11 +13,11 @@ use Rattle.ea_engine.proofs.run.closing.settle.Goals as goal
 use Rattle.ea_engine.proofs.run.closing.settle.Goals.{After-close-closed}
 
 over : (g : _) (c : After-close-closed g) → AreJoinedAndClosed g.K.Known.is_known g.K.Posed.problem c.close-table.result.items c.args.seats.label_seat.history c.args.seats.pool_seat.account c.close-closed.result
-    c.requires.account.gathered.back c.requires.account.gathered.refused
+    c.requires.joined.account.gathered.back c.requires.joined.account.gathered.refused
 over g c = record {
-  labels = subst (λ n. IsLawful g.K.Known.is_known n c.close-table.result.items (c.args.seats.label_seat.history ∷ [])) c.requires.places c.close-table.ensures.lawful;
+  labels = subst (λ n. IsLawful g.K.Known.is_known n c.close-table.result.items (c.args.seats.label_seat.history ∷ [])) c.requires.posed.nodes_are c.close-table.ensures.lawful;
   entries = c.close-closed.ensures.left;
-  closed = c.requires.account.gathered.closed;
+  closed = c.requires.joined.account.gathered.closed;
 }
 
 -- what was pushed was popped or is left
@@ -27,42 +27,42 @@ left_count g c =
 
 in_range : (g : _) (c : After-close-closed g) (e : Entry) → g.K.Known.is_known e.node e.key → (0 < e.node) × (e.node ≤ c.args.labels.nodes)
 in_range g c e known =
-    let is = node_of g.K.Known.is_known g.K.Posed.problem c.requires.posed e.node e.key known in
-    (is.from_one, omega (arith, is.to_last, c.requires.places))
+    let is = node_of g.K.Known.is_known g.K.Posed.problem c.requires.posed.posed e.node e.key known in
+    (is.from_one, omega (arith, is.to_last, c.requires.posed.nodes_are))
 
 pub close-table-requires-clause-same_table : goal.close-table-requires-clause-same_table
-close-table-requires-clause-same_table g c κs outlives = c.requires.account.fit.labels
+close-table-requires-clause-same_table g c κs outlives = c.requires.joined.account.fit.labels
 
 pub close-table-requires-clause-all_shares : goal.close-table-requires-clause-all_shares
-close-table-requires-clause-all_shares g c κs outlives = c.requires.shares.labels
+close-table-requires-clause-all_shares g c κs outlives = c.requires.joined.shares.labels
 
 pub close-closed-requires-clause-seat : goal.close-closed-requires-clause-seat
-close-closed-requires-clause-seat g c κs outlives = c.requires.account.fit.pool
+close-closed-requires-clause-seat g c κs outlives = c.requires.joined.account.fit.pool
 
 pub close-closed-requires-clause-all : goal.close-closed-requires-clause-all
-close-closed-requires-clause-all g c κs outlives = c.requires.shares.pool
+close-closed-requires-clause-all g c κs outlives = c.requires.joined.shares.pool
 
 pub drain-drained-requires-clause-nodes : goal.drain-drained-requires-clause-nodes
 drain-drained-requires-clause-nodes g c =
     let d = (goal.at.drain-drained-requires-clause-nodes g c).After-close-closed in
     λ e inside.
     let is = in_range g d e (left_known _ _ _ _ _ _ _ _ (over g d) e inside) in
-    record { from_one = is.0; to_last = omega (arith, is.1, c.requires.account.nodes_are) }
+    record { from_one = is.0; to_last = omega (arith, is.1, c.requires.joined.account.nodes_are) }
 
 pub drain-drained-requires-clause-few : goal.drain-drained-requires-clause-few
 drain-drained-requires-clause-few g c =
     let d = (goal.at.drain-drained-requires-clause-few g c).After-close-closed in
-    omega (arith, left_count g d, c.requires.few)
+    omega (arith, left_count g d, c.requires.joined.few)
 
 pub returns : goal.returns
 returns g c =
     let d = (goal.at.returns g c).After-close-closed in
-    let h = c.requires.account.gathered in
+    let h = c.requires.joined.account.gathered in
     let left = c.close-closed.result in
     let drains = c.drain-drained.ensures.drained in
     let old : (e : Entry) → Contains (h.back ++ h.refused) e → Contains c.drain-drained.new.todo.waiting e.node = λ e i. drains.opens.kept e.node (h.waits e i) in
     record {
-      underway = may_finish _ _ _ _ _ _ _ _ (over g d) (λ node time knows. (c.requires.posed.names node time).0 knows) c.requires.offered _
+      underway = may_finish _ _ _ _ _ _ _ _ (over g d) (λ node time knows. (c.requires.posed.posed.names node time).0 knows) c.requires.joined.offered _
           (λ e inside. elim (Contains-append_cases (left ++ h.back) h.refused e inside) [
             | inl front ↦ elim (Contains-append_cases left h.back e front) [
               | inl stays ↦ drains.waits e stays
@@ -70,7 +70,7 @@ returns g c =
             ]
             | inr refused ↦ old e (Contains-append_right h.back h.refused e refused)
           ]);
-      nodes_are = drains.opens.nodes_are ∙ c.requires.account.nodes_are ∙ c.requires.places;
+      nodes_are = drains.opens.nodes_are ∙ c.requires.joined.account.nodes_are ∙ c.requires.posed.nodes_are;
       drained = omega (arith, left_count g d, c.drain-drained.ensures.counted);
       opens = subst (λ n. OpensUpTo n c.args.todo c.drain-drained.new.todo) (sym c.drain-drained.ensures.counted) drains.opens;
     }

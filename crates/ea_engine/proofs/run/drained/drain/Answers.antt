@@ -32,15 +32,18 @@ loop-entry-preserved g c =
 pub loop-entry-init : goal.loop-entry-init
 loop-entry-init g c = record { left = λ entry inside. inside; done = λ entry inside. inl inside; counted = omega arith; opens = OpensUpTo-none _ }
 
-pub returns-clause-drained : goal.returns-clause-drained
-returns-clause-drained g c =
+pub returns : goal.returns
+returns g c =
     let inv = c.loop-entry.invariant in
     record {
-      waits = λ entry inside. elim (inv.done entry inside) [
-        | inl stays ↦ absurd (omega (arith, (rw c.in_default.ensures.0 at stays).1))
-        | inr waits ↦ waits
-      ];
-      opens = subst (λ n. OpensUpTo n c.args.todo.now c.loop-entry.todo) (omega (arith, inv.counted, ap length c.in_default.ensures.0)) inv.opens;
+      drained = record {
+        waits = λ entry inside. elim (inv.done entry inside) [
+          | inl stays ↦ absurd (omega (arith, (rw c.in_default.ensures.0 at stays).1))
+          | inr waits ↦ waits
+        ];
+        opens = subst (λ n. OpensUpTo n c.args.todo.now c.loop-entry.todo) (omega (arith, inv.counted, ap length c.in_default.ensures.0)) inv.opens;
+      };
+      counted = omega (arith, inv.counted, ap length c.in_default.ensures.0);
     }
 
 pub overflow_add-drained : goal.overflow_add-drained

@@ -11,14 +11,14 @@ use Rattle.ea_engine.proofs.run.gathering.gather_row.Goals as goal
 use Rattle.ea_engine.proofs.run.gathering.gather_row.Goals.{After-end_at, After-gathering-1}
 
 -- the first place of the row, and the others
-parts : (g : _) (c : After-end_at g) → (c.requires.row.first ≡ c.end_at.result) × (c.requires.row.others ≡ into_iter_items c.next.new.self)
+parts : (g : _) (c : After-end_at g) → (c.requires.row.row_done.first ≡ c.end_at.result) × (c.requires.row.row_done.others ≡ into_iter_items c.next.new.self)
 parts g c =
-    split_first c.args.row.items c.requires.row.first c.end_at.result c.in-Some.place c.requires.row.others (into_iter_items c.next.new.self) c.requires.row.row_is (sym c.into_iter-places.ensures.rest ∙ c.in-Some.ensures.items) c.end_at.ensures.end
+    split_first c.args.row.items c.requires.row.row_done.first c.end_at.result c.in-Some.place c.requires.row.row_done.others (into_iter_items c.next.new.self) c.requires.row.row_done.row_is (sym c.into_iter-places.ensures.rest ∙ c.in-Some.ensures.items) c.end_at.ensures.end
 
 pub begin_gathering-gathering-requires-clause-end : goal.begin_gathering-gathering-requires-clause-end
 begin_gathering-gathering-requires-clause-end g c κs within =
     let d = (goal.at.begin_gathering-gathering-requires-clause-end g c).After-end_at in
-    subst (λ end. IsFirstEnd g.K.Posed.problem (tables c.args.labels.now c.args.pool.now) c.args.seeds.seeded c.args.todo.waiting end) (parts g d).0 c.requires.row.first_end
+    subst (λ end. IsFirstEnd g.K.Posed.problem (tables c.args.labels.now c.args.pool.now) c.args.seeds.seeded c.args.todo.waiting end) (parts g d).0 c.requires.row.row_done.first_end
 
 pub loop-place-init : goal.loop-place-init
 loop-place-init g c =
@@ -32,11 +32,11 @@ loop-place-init g c =
       ends = c.end_at.result ∷ [];
       gathered = c.begin_gathering-gathering.ensures.gathered;
       row_is = sym c.into_iter-places.ensures.rest ∙ c.in-Some.ensures.items ∙ ap (λ p. p ∷ into_iter_items c.next.new.self) c.end_at.ensures.end ∙ ap (λ ps. place.Done c.end_at.result ∷ ps) (sym same);
-      rest = subst (λ ps. All (IsEndPlace g.K.Posed.problem (tables c.args.labels.now c.args.pool.now)) ps) others c.requires.row.other_ends;
-      walks = c.begin_gathering-gathering.ensures.begins.walks;
-      label_shares = omega (arith, c.requires.row.label_shares, c.begin_gathering-gathering.ensures.begins.label_shares, ap (λ e. e.label_seat.history.shares) first, ap length others);
-      pool_shares = omega (arith, c.requires.row.pool_shares, c.begin_gathering-gathering.ensures.begins.pool_shares, ap (λ e. e.pool_seat.account.shares) first, ap length others);
-      room = c.begin_gathering-gathering.ensures.begins.room;
+      rest = subst (λ ps. All (IsEndPlace g.K.Posed.problem (tables c.args.labels.now c.args.pool.now)) ps) others c.requires.row.row_done.other_ends;
+      walks = c.begin_gathering-gathering.ensures.walks;
+      label_shares = omega (arith, c.requires.row.row_done.label_shares, c.begin_gathering-gathering.ensures.label_shares, ap (λ e. e.label_seat.history.shares) first, ap length others);
+      pool_shares = omega (arith, c.requires.row.row_done.pool_shares, c.begin_gathering-gathering.ensures.pool_shares, ap (λ e. e.pool_seat.account.shares) first, ap length others);
+      room = c.begin_gathering-gathering.ensures.room;
     }
 
 pub end_at-requires-in-loop-place-clause-done : goal.end_at-requires-in-loop-place-clause-done
@@ -47,21 +47,21 @@ counted : (g : _) (c : After-gathering-1 g) → length c.loop-place.invariant.en
 counted g c =
     omega (arith, ap length c.loop-place.invariant.row_is, length-append (all_done c.loop-place.invariant.ends) (into_iter_items c.loop-place.place-iterator), all_done-length c.loop-place.invariant.ends, ap length c.in-Some-place.ensures.steps.0)
 
-pub join_end-requires-clause-room : goal.join_end-requires-clause-room
-join_end-requires-clause-room g c κs within =
-    let d = (goal.at.join_end-requires-clause-room g c).After-gathering-1 in
+pub join_end-requires-clause-may : goal.join_end-requires-clause-may
+join_end-requires-clause-may g c κs within =
+    let d = (goal.at.join_end-requires-clause-may g c).After-gathering-1 in
     let inv = c.loop-place.invariant in
     let few = counted g d in
-    let room = c.requires.results in
+    let room = c.requires.row.may.unfilled in
     let results = c.loop-place.gathering.results in
     record {
-      counters = omega (arith, few, room.counters_room, inv.room.counters, ap length inv.gathered.counters_are, length-map inv.ends (λ e. e.counters), results.counters.ok, c.args.row.ok);
-      rngs = omega (arith, few, room.rngs_room, inv.room.rngs, ap length inv.gathered.rngs_are, length-map inv.ends (λ e. e.rng), results.rngs.ok, c.args.row.ok);
-      tracers = omega (arith, few, room.tracers_room, inv.room.tracers, ap length inv.gathered.tracers_are, length-map inv.ends (λ e. e.tracer), results.tracers.ok, c.args.row.ok);
+      account = inv.gathered.account;
+      counters_room = omega (arith, few, room.counters_room, inv.room.counters, ap length inv.gathered.counters_are, length-map inv.ends (λ e. e.counters), results.counters.ok, c.args.row.ok);
+      rngs_room = omega (arith, few, room.rngs_room, inv.room.rngs, ap length inv.gathered.rngs_are, length-map inv.ends (λ e. e.rng), results.rngs.ok, c.args.row.ok);
+      tracers_room = omega (arith, few, room.tracers_room, inv.room.tracers, ap length inv.gathered.tracers_are, length-map inv.ends (λ e. e.tracer), results.tracers.ok, c.args.row.ok);
+      returned_few = omega (arith, inv.gathered.returned_few, few, c.requires.row.row_done.few, c.requires.row.may.holds.back_few);
+      is_end = first_end _ _ c.in-Some-place.place c.end_at-in-loop-place.result _ _ inv.rest c.in-Some-place.ensures.steps.0 c.end_at-in-loop-place.ensures.end;
     }
-
-pub join_end-requires-clause-end : goal.join_end-requires-clause-end
-join_end-requires-clause-end g c κs within = first_end _ _ c.in-Some-place.place c.end_at-in-loop-place.result _ _ c.loop-place.invariant.rest c.in-Some-place.ensures.steps.0 c.end_at-in-loop-place.ensures.end
 
 pub loop-place-preserved : goal.loop-place-preserved
 loop-place-preserved g c =
@@ -74,21 +74,21 @@ loop-place-preserved g c =
       can_next = tt;
       is_finite = tt;
       ends = inv.ends ++ end ∷ [];
-      gathered = gathered_more _ _ c.args.seeds.seeded c.args.seeds.returned inv.ends end c.loop-place.gathering c.join_end.new.gathering inv.gathered e.account e.joins is.pushed_few;
+      gathered = gathered_more _ _ c.args.seeds.seeded c.args.seeds.returned inv.ends end c.loop-place.gathering c.join_end.new.gathering inv.gathered e is.pushed_few;
       row_is = all_done-more c.args.row.items inv.ends end c.in-Some-place.place _ _ inv.row_is steps c.end_at-in-loop-place.ensures.end;
       rest = All-tail (IsEndPlace g.K.Posed.problem (tables c.args.labels.now c.args.pool.now)) c.in-Some-place.place _ (rw steps at inv.rest);
-      walks = e.joins.opens.walks_are ∙ inv.walks;
-      label_shares = omega (arith, inv.label_shares, e.joins.label_shares, ap length steps);
-      pool_shares = omega (arith, inv.pool_shares, e.joins.pool_shares, ap length steps);
+      walks = e.opens.walks_are ∙ inv.walks;
+      label_shares = omega (arith, inv.label_shares, e.label_shares, ap length steps);
+      pool_shares = omega (arith, inv.pool_shares, e.pool_shares, ap length steps);
       room = record {
-        counters = e.joins.room.counters ∙ inv.room.counters;
-        rngs = e.joins.room.rngs ∙ inv.room.rngs;
-        tracers = e.joins.room.tracers ∙ inv.room.tracers;
+        counters = e.room.counters ∙ inv.room.counters;
+        rngs = e.room.rngs ∙ inv.room.rngs;
+        tracers = e.room.tracers ∙ inv.room.tracers;
       };
     }
 
-pub returns-clause-gathered : goal.returns-clause-gathered
-returns-clause-gathered g c =
+pub returns : goal.returns
+returns g c =
     let inv = c.loop-place.invariant in
     let none = c.in-None.ensures.steps in
     let ended : length (into_iter_items c.loop-place.place-iterator) ≡ 0 = omega (arith, none.0, c.loop-place.place-iterator.rest.ok.0) in
@@ -96,36 +96,26 @@ returns-clause-gathered g c =
       ends = inv.ends;
       row_is = inv.row_is ∙ nothing_after (all_done inv.ends) _ ended;
       all = inv.gathered;
-      shares = record { labels = omega (arith, inv.label_shares, ended); pool = omega (arith, inv.pool_shares, ended) };
+      shares = record { fit = inv.gathered.account.fit; labels = omega (arith, inv.label_shares, ended); pool = omega (arith, inv.pool_shares, ended) };
+      walks_are = inv.walks;
     }
 
-pub begin_gathering-gathering-requires-clause-todo : goal.begin_gathering-gathering-requires-clause-todo
-begin_gathering-gathering-requires-clause-todo g c κs within = c.requires.todo
-
-pub begin_gathering-gathering-requires-clause-results : goal.begin_gathering-gathering-requires-clause-results
-begin_gathering-gathering-requires-clause-results g c κs within =
-    let room = c.requires.results in
-    let one = ap length c.requires.row.row_is in
+pub begin_gathering-gathering-requires-clause-gather : goal.begin_gathering-gathering-requires-clause-gather
+begin_gathering-gathering-requires-clause-gather g c κs within =
+    let room = c.requires.row.may.unfilled in
+    let one = ap length c.requires.row.row_done.row_is in
     record {
-      counters = room.counters;
-      rngs = room.rngs;
-      tracers = room.tracers;
-      counters_room = omega (arith, room.counters_room, one, c.args.row.ok);
-      rngs_room = omega (arith, room.rngs_room, one, c.args.row.ok);
-      tracers_room = omega (arith, room.tracers_room, one, c.args.row.ok);
+      holds = c.requires.row.may.holds;
+      unfilled = record {
+        counters = room.counters;
+        rngs = room.rngs;
+        tracers = room.tracers;
+        counters_room = omega (arith, room.counters_room, one, c.args.row.ok);
+        rngs_room = omega (arith, room.rngs_room, one, c.args.row.ok);
+        tracers_room = omega (arith, room.tracers_room, one, c.args.row.ok);
+      };
     }
 
 pub end_at-requires-clause-done : goal.end_at-requires-clause-done
 end_at-requires-clause-done g c κs within =
-    first_place_done c.args.row.items c.requires.row.first c.in-Some.place c.requires.row.others (into_iter_items c.next.new.self) c.requires.row.row_is (sym c.into_iter-places.ensures.rest ∙ c.in-Some.ensures.items)
-
-pub join_end-requires-clause-account : goal.join_end-requires-clause-account
-join_end-requires-clause-account g c κs within = c.loop-place.invariant.gathered.account
-
-pub join_end-requires-clause-returned : goal.join_end-requires-clause-returned
-join_end-requires-clause-returned g c κs within =
-    let d = (goal.at.join_end-requires-clause-returned g c).After-gathering-1 in
-    omega (arith, c.loop-place.invariant.gathered.returned_few, counted g d, c.requires.row.few, c.requires.todo.back_few)
-
-pub returns-clause-walks : goal.returns-clause-walks
-returns-clause-walks g c = c.loop-place.invariant.walks
+    first_place_done c.args.row.items c.requires.row.row_done.first c.in-Some.place c.requires.row.row_done.others (into_iter_items c.next.new.self) c.requires.row.row_done.row_is (sym c.into_iter-places.ensures.rest ∙ c.in-Some.ensures.items)

@@ -6,30 +6,28 @@ use Rattle.ea_engine.proofs.JoinLemmas.{gathered_joined}
 use Rattle.ea_engine.proofs.run.gathering.join_end.Goals as goal
 
 pub join-requires-clause-same_table : goal.join-requires-clause-same_table
-join-requires-clause-same_table g c κs within = c.requires.account.fit.labels
+join-requires-clause-same_table g c κs within = c.requires.may.account.fit.labels
 
 pub join-requires-2-clause-seats : goal.join-requires-2-clause-seats
-join-requires-2-clause-seats g c κs within = (c.requires.account.fit.pool, c.requires.end.fit.pool)
+join-requires-2-clause-seats g c κs within = (c.requires.may.account.fit.pool, c.requires.may.is_end.fit.pool)
 
 pub keep_hand-requires : goal.keep_hand-requires
-keep_hand-requires g c = subst (λ n. IsHandInside n c.args.end.hand) (sym c.requires.account.nodes_are) c.requires.end.inside
+keep_hand-requires g c = subst (λ n. IsHandInside n c.args.end.hand) (sym c.requires.may.account.nodes_are) c.requires.may.is_end.inside
 
-pub returns-clause-account : goal.returns-clause-account
-returns-clause-account g c =
-    let account = c.requires.account in
-    let k = c.keep_hand.ensures in
-    record {
-      fit = record { labels = c.join.ensures.same_table ∙ account.fit.labels; pool = c.join-2.ensures.seat };
-      gathered = gathered_joined _ _ _ _ _ _ _ c.args.end.hand _ _ c.join.ensures.gains c.join-2.ensures.both.1 c.join-2.ensures.both.2 account.gathered c.requires.end.closed k.opens.kept k.popped k.taken k.fresh;
-      nodes_are = k.opens.nodes_are ∙ account.nodes_are;
-    }
-
-pub returns-clause-joins : goal.returns-clause-joins
-returns-clause-joins g c =
-    let end = c.requires.end in
+pub returns : goal.returns
+returns g c =
+    let end = c.requires.may.is_end in
     let gains = c.join.ensures.gains in
     let both = c.join-2.ensures.both in
     record {
+      account =
+          let account = c.requires.may.account in
+          let k = c.keep_hand.ensures in
+          record {
+            fit = record { labels = c.join.ensures.same_table ∙ account.fit.labels; pool = c.join-2.ensures.seat };
+            gathered = gathered_joined _ _ _ _ _ _ _ c.args.end.hand _ _ c.join.ensures.gains c.join-2.ensures.both.1 c.join-2.ensures.both.2 account.gathered c.requires.may.is_end.closed k.opens.kept k.popped k.taken k.fresh;
+            nodes_are = k.opens.nodes_are ∙ account.nodes_are;
+          };
       bounds = λ b inside. rw (ap (λ x. x.bounds) gains) (Contains-append_right _ _ b inside);
       pushed = ap length both.1 ∙ length-append _ _ ∙ ap (λ n. length c.args.gathering.now.seats.pool_seat.account.pushed + n) end.pushed_is;
       popped = ap length both.2 ∙ length-append _ _ ∙ ap (λ n. length c.args.gathering.now.seats.pool_seat.account.popped + n) end.popped_is;

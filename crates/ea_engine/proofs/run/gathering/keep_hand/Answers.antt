@@ -4,7 +4,7 @@ use Rattle.ea_engine.proofs.Settling.{each_of_option, of_option}
 use Rattle.ea_engine.proofs.run.gathering.keep_hand.Goals as goal
 
 pub keep-requires : goal.keep-requires
-keep-requires c = c.requires.popped
+keep-requires c = of_option c.args.hand.now.popped _ c.requires.popped
 
 pub keep_all-requires : goal.keep_all-requires
 keep_all-requires c = λ entry inside.
@@ -22,7 +22,7 @@ returns c =
     let second = c.keep_all.ensures in
     let third = c.keep_all-2.ensures in
     record {
-      popped = each_of_option c.args.hand.now.popped _ (λ e inside. third.opens.kept e.node (second.opens.kept e.node (of_option c.args.hand.now.popped _ first.waits e inside)));
+      popped = each_of_option c.args.hand.now.popped _ (λ e inside. third.opens.kept e.node (second.opens.kept e.node (first.waits e inside)));
       taken = λ e inside. third.opens.kept e.node (second.waits e inside);
       fresh = third.waits;
       opens = OpensUpTo-then _ _ _ _ _ _ (OpensUpTo-then _ _ _ _ _ _ first.opens second.opens refl) third.opens refl;

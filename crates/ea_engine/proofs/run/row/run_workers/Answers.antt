@@ -6,10 +6,9 @@ use Rattle.ea_engine.proofs.run.row.run_workers.Goals as goal
 pub for_each_mut-requires-clause-accepts : goal.for_each_mut-requires-clause-accepts
 for_each_mut-requires-clause-accepts g c = λ κs outlives worker p lt is. (
   (
-    omega (arith, lt, c.requires.few),
-    c.requires.pace,
-    c.requires.ground,
-    rw is (c.requires.ready worker p.now lt),
+    omega (arith, lt, c.requires.ready.few),
+    c.requires.may,
+    rw is (c.requires.ready.each worker p.now lt),
   ),
   (
     record { owned = c.type_bounds.send-K.owned; leaving = λ k. Quiet-if (k (of_param 0)) _ _ (λ x w. tt) (λ x w. tt) },

@@ -40,26 +40,26 @@ loop-preserved g c =
 
 pub loop-init : goal.loop-init
 loop-init g c = record {
-  fit = c.requires.seats.fit;
+  fit = c.requires.may.fit;
   gave = record { bounds = refl; lowerings = refl; pushed = refl; popped = refl; label_shares = omega arith; pool_shares = omega arith };
-  len = ap length c.requires.others.none;
+  len = ap length c.requires.may.others_empty.none;
   counted = omega arith;
   capacity = refl;
-  room = c.requires.others.room;
-  fresh = rw c.requires.others.none (All-nil (AreFresh (tables c.args.labels.now c.args.pool.now)));
+  room = c.requires.may.others_empty.room;
+  fresh = rw c.requires.may.others_empty.none (All-nil (AreFresh (tables c.args.labels.now c.args.pool.now)));
 }
 
 pub split-requires-clause-same_table : goal.split-requires-clause-same_table
 split-requires-clause-same_table g c κs outlives = c.loop.invariant.fit.labels
 
 pub split-requires-clause-shares : goal.split-requires-clause-shares
-split-requires-clause-shares g c κs outlives = omega (arith, c.loop.invariant.gave.label_shares, c.requires.seats.labels)
+split-requires-clause-shares g c κs outlives = omega (arith, c.loop.invariant.gave.label_shares, c.requires.may.labels)
 
 pub split-requires-in-loop-clause-seat : goal.split-requires-in-loop-clause-seat
 split-requires-in-loop-clause-seat g c κs outlives = c.loop.invariant.fit.pool
 
 pub split-requires-in-loop-clause-share : goal.split-requires-in-loop-clause-share
-split-requires-in-loop-clause-share g c κs outlives = omega (arith, c.loop.invariant.gave.pool_shares, c.requires.seats.pool)
+split-requires-in-loop-clause-share g c κs outlives = omega (arith, c.loop.invariant.gave.pool_shares, c.requires.may.pool)
 
 pub returns : goal.returns
 returns g c =

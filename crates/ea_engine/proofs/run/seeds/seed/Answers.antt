@@ -26,20 +26,18 @@ sow-requires-clause-source g c κs outlives = record {
   is_known = c.requires.source.is_known;
 }
 
-pub returns-in-Kept-clause-account : goal.returns-in-Kept-clause-account
-returns-in-Kept-clause-account g c =
-    let account = c.requires.account in
-    let h = account.gathered in
-    record {
-      fit = record { labels = c.offer-offered.ensures.same_table ∙ account.fit.labels; pool = account.fit.pool };
-      gathered = record { back = h.back; refused = h.refused; closed = closed_noted _ _ _ _ c.args.source.node c.in-Kept.field-0 h.back h.refused c.in-Kept.ensures.kept.3 h.closed; waits = h.waits };
-      nodes_are = account.nodes_are;
-    }
-
-pub returns-in-Kept-clause-offered : goal.returns-in-Kept-clause-offered
-returns-in-Kept-clause-offered g c =
+pub returns-in-Kept : goal.returns-in-Kept
+returns-in-Kept g c =
     let kept = c.in-Kept.ensures.kept in
     record {
+      account =
+          let account = c.requires.account in
+          let h = account.gathered in
+          record {
+            fit = record { labels = c.offer-offered.ensures.same_table ∙ account.fit.labels; pool = account.fit.pool };
+            gathered = record { back = h.back; refused = h.refused; closed = closed_noted _ _ _ _ c.args.source.node c.in-Kept.field-0 h.back h.refused c.in-Kept.ensures.kept.3 h.closed; waits = h.waits };
+            nodes_are = account.nodes_are;
+          };
       reached = IsReachedBy-noted _ _ c.args.source.node c.in-Kept.field-0 c.args.source.departure (ap (λ x. x.bounds) kept.3) kept.1;
       bounds = λ b inside. Contains-kept (bound c.args.source.node c.in-Kept.field-0) _ _ b (ap (λ x. x.bounds) kept.3) inside;
       offers = record {
@@ -52,21 +50,19 @@ returns-in-Kept-clause-offered g c =
       opens = OpensUpTo-none _;
     }
 
-pub returns-in-Lowered-clause-account : goal.returns-in-Lowered-clause-account
-returns-in-Lowered-clause-account g c =
-    let account = c.requires.account in
-    let fell = c.in-Lowered.ensures.lowered in
-    record {
-      fit = record { labels = c.offer-offered.ensures.same_table ∙ account.fit.labels; pool = c.sow.ensures.of_pool };
-      gathered = c.sow.ensures.gathered _ _ (record { from = fell.0; after_is = fell.4 }) account.gathered;
-      nodes_are = c.sow.ensures.opens.nodes_are ∙ account.nodes_are;
-    }
-
-pub returns-in-Lowered-clause-offered : goal.returns-in-Lowered-clause-offered
-returns-in-Lowered-clause-offered g c =
+pub returns-in-Lowered : goal.returns-in-Lowered
+returns-in-Lowered g c =
     let fell = c.in-Lowered.ensures.lowered in
     let sown = c.sow.ensures in
     record {
+      account =
+          let account = c.requires.account in
+          let fell = c.in-Lowered.ensures.lowered in
+          record {
+            fit = record { labels = c.offer-offered.ensures.same_table ∙ account.fit.labels; pool = c.sow.ensures.of_pool };
+            gathered = c.sow.ensures.gathered _ _ (record { from = fell.0; after_is = fell.4 }) account.gathered;
+            nodes_are = c.sow.ensures.opens.nodes_are ∙ account.nodes_are;
+          };
       reached = IsReachedBy-noted _ _ c.args.source.node c.args.source.departure c.args.source.departure (ap (λ x. x.bounds) fell.4) (omega arith);
       bounds = λ b inside. Contains-kept (bound c.args.source.node c.args.source.departure) _ _ b (ap (λ x. x.bounds) fell.4) inside;
       offers = sown.offers _ _ (sows_of g.K.Known.is_known _ _ c.args.source fell);

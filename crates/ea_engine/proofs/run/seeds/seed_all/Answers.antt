@@ -23,7 +23,7 @@ seed-requires-clause-account g c κs outlives = c.loop-place.invariant.account
 
 pub seed-requires-clause-source : goal.seed-requires-clause-source
 seed-requires-clause-source g c κs outlives =
-    let ground = c.requires.ground in
+    let ground = c.requires.may.is_ground in
     let problem = g.K.Posed.problem in
     let inside = among c.sources-sources.result.now problem.query.sources c.loop-place.place (record { node = 0; departure = 0 }) (c.sources-sources.ensures.sources ∙ ap (λ q. q.sources) ground.named.query_is) (omega arith) in
     let start = ground.posed.sources_in _ inside in
@@ -34,7 +34,7 @@ seed-requires-clause-source g c κs outlives =
 
 pub loop-place-init : goal.loop-place-init
 loop-place-init g c = record {
-  account = c.requires.account;
+  account = c.requires.may.account;
   opens = OpensUpTo-none _;
   offered = λ k d lt. absurd (omega (arith, lt));
   step = search rules;
@@ -46,22 +46,22 @@ pub loop-place-preserved : goal.loop-place-preserved
 loop-place-preserved g c = record {
   account = c.seed.ensures.account;
   opens = elim c.match-seed.branch [
-    | in-Kept w ↦ OpensUpTo-then _ _ _ _ 0 _ c.loop-place.invariant.opens w.in-Kept.ensures.offered.opens (omega arith)
-    | in-Pushed w ↦ OpensUpTo-then _ _ _ _ 0 _ c.loop-place.invariant.opens w.in-Pushed.ensures.offered.opens (omega arith)
-    | in-HandedBack w ↦ OpensUpTo-then _ _ _ _ 1 _ c.loop-place.invariant.opens w.in-HandedBack.ensures.offered.opens (omega arith)
+    | in-Kept w ↦ OpensUpTo-then _ _ _ _ 0 _ c.loop-place.invariant.opens w.in-Kept.ensures.opens (omega arith)
+    | in-Pushed w ↦ OpensUpTo-then _ _ _ _ 0 _ c.loop-place.invariant.opens w.in-Pushed.ensures.opens (omega arith)
+    | in-HandedBack w ↦ OpensUpTo-then _ _ _ _ 1 _ c.loop-place.invariant.opens w.in-HandedBack.ensures.opens (omega arith)
   ];
   offered = λ k d lt.
       let sources = c.sources-sources.result.now in
       let bounds = c.seed.new.seats.label_seat.history.bounds in
       let P : ℕ → Type 0 = λ j. (e : Source) → IsReachedBy bounds (get_or sources j e).node (get_or sources j e).departure in
       below_more P c.loop-place.place
-      (λ j lower e. IsReachedBy-more c.loop-place.seats.label_seat.history.bounds bounds c.seed.ensures.offered.bounds _ _ (c.loop-place.invariant.offered j e lower))
-      (λ e. subst (λ (s : Source). IsReachedBy bounds s.node s.departure) (any_default sources c.loop-place.place (record { node = 0; departure = 0 }) e (omega arith)) c.seed.ensures.offered.reached)
+      (λ j lower e. IsReachedBy-more c.loop-place.seats.label_seat.history.bounds bounds c.seed.ensures.bounds _ _ (c.loop-place.invariant.offered j e lower))
+      (λ e. subst (λ (s : Source). IsReachedBy bounds s.node s.departure) (any_default sources c.loop-place.place (record { node = 0; departure = 0 }) e (omega arith)) c.seed.ensures.reached)
       k lt d;
   step = elim c.match-seed.branch [
-    | in-Kept w ↦ pushed_then _ _ _ _ 0 _ c.loop-place.invariant.step w.in-Kept.ensures.offered.step (omega arith)
-    | in-Pushed w ↦ pushed_then _ _ _ _ 1 _ c.loop-place.invariant.step w.in-Pushed.ensures.offered.step (omega arith)
-    | in-HandedBack w ↦ pushed_then _ _ _ _ 0 _ c.loop-place.invariant.step w.in-HandedBack.ensures.offered.step (omega arith)
+    | in-Kept w ↦ pushed_then _ _ _ _ 0 _ c.loop-place.invariant.step w.in-Kept.ensures.step (omega arith)
+    | in-Pushed w ↦ pushed_then _ _ _ _ 1 _ c.loop-place.invariant.step w.in-Pushed.ensures.step (omega arith)
+    | in-HandedBack w ↦ pushed_then _ _ _ _ 0 _ c.loop-place.invariant.step w.in-HandedBack.ensures.step (omega arith)
   ];
   counted = λ new.
       let sources = c.sources-sources.result.now in
@@ -71,9 +71,9 @@ loop-place-preserved g c = record {
       let whole : c.loop-place.seats.label_seat.history.shares ≡ SHARES = c.loop-place.invariant.step.label_shares ∙ ap (λ (r : SeatRecord). r.shares) new in
       let P : ℕ → Type 0 = λ n. IsSown sources (c.loop-place.place + 1) c.seed.new.seats.label_seat.history.lowerings n in
       elim c.match-seed.branch [
-        | in-Kept w ↦ subst P (omega arith) (IsSown-kept sources c.loop-place.place source here _ _ _ h w.in-Kept.ensures.offered.offers whole)
-        | in-Pushed w ↦ subst P (omega arith) (IsSown-lowered sources c.loop-place.place source here _ _ _ h w.in-Pushed.ensures.offered.offers c.loop-place.invariant.offered)
-        | in-HandedBack w ↦ subst P (omega arith) (IsSown-lowered sources c.loop-place.place source here _ _ _ h w.in-HandedBack.ensures.offered.offers c.loop-place.invariant.offered)
+        | in-Kept w ↦ subst P (omega arith) (IsSown-kept sources c.loop-place.place source here _ _ _ h w.in-Kept.ensures.offers whole)
+        | in-Pushed w ↦ subst P (omega arith) (IsSown-lowered sources c.loop-place.place source here _ _ _ h w.in-Pushed.ensures.offers c.loop-place.invariant.offered)
+        | in-HandedBack w ↦ subst P (omega arith) (IsSown-lowered sources c.loop-place.place source here _ _ _ h w.in-HandedBack.ensures.offers c.loop-place.invariant.offered)
       ];
   tried = elim c.match-seed.branch [
     | in-Kept w ↦ omega (arith, c.loop-place.invariant.tried)
@@ -82,15 +82,13 @@ loop-place-preserved g c = record {
   ];
 }
 
-pub returns-clause-account : goal.returns-clause-account
-returns-clause-account g c = c.loop-place.invariant.account
-
-pub returns-clause-offered : goal.returns-clause-offered
-returns-clause-offered g c =
+pub returns : goal.returns
+returns g c =
     let sources = c.sources-sources.result.now in
     let inv = c.loop-place.invariant in
-    let are = c.sources-sources.ensures.sources ∙ ap (λ q. q.sources) c.requires.ground.named.query_is in
+    let are = c.sources-sources.ensures.sources ∙ ap (λ q. q.sources) c.requires.may.is_ground.named.query_is in
     record {
+      account = c.loop-place.invariant.account;
       offered = λ source inside.
           let here = subst (λ xs. IsAmong xs source) (sym are) inside in
           subst (λ (s : Source). IsReachedBy c.loop-place.seats.label_seat.history.bounds s.node s.departure) (sym here.1.1) (inv.offered here.0 source (omega (arith, here.1.0)));

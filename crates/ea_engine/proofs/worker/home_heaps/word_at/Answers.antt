@@ -18,12 +18,12 @@ heap_by heaps s h low =
     let behind : n % heaps + (k + 1) * (n / heaps) + h ≡ s + (k + 1) = omega (arith, parts, ap (λ m. m * (n / heaps)) same, same, low) in
     subst (λ m. (s + k * (n % heaps)) % m ≡ h) same (heap_of k s h (n % heaps) (n / heaps) (omega (arith, same, low)) behind)
 
-pub returns-clause-draws : goal.returns-clause-draws
-returns-clause-draws c = heap_by c.args.heaps c.args.step c.args.heap c.requires.0
-
-pub returns-clause-leads : goal.returns-clause-leads
-returns-clause-leads c =
+pub returns : goal.returns
+returns c =
     let k = c.args.heaps - 1 in
     let t = (c.args.step + c.args.heaps - c.args.heap) % c.args.heaps in
     let turned : c.args.step + k * t ≡ t * k + c.args.step = omega (arith, mul_comm k t) in
-    ap (λ n. n % k) turned ∙ mod-mul-add t k c.args.step (omega (arith, c.requires.1))
+    record {
+      draws = heap_by c.args.heaps c.args.step c.args.heap c.requires.0;
+      leads = ap (λ n. n % k) turned ∙ mod-mul-add t k c.args.step (omega (arith, c.requires.1));
+    }

@@ -5,11 +5,12 @@ use Rattle.ea_engine.proofs.worker.scan.follow.Goals as goal
 pub is_ahead-requires-clause-seat : goal.is_ahead-requires-clause-seat
 is_ahead-requires-clause-seat g c κs outlives = record { is_ground = c.requires.may.may_scan.is_ground; seat_fits = c.requires.may.may_scan.are_means.seats.labels }
 
-pub is_ahead-requires-clause-departure : goal.is_ahead-requires-clause-departure
-is_ahead-requires-clause-departure g c κs outlives = g.K.Known.within c.args.entry.node c.args.entry.key c.requires.may.may_scan.is_known
-
 pub is_ahead-requires-clause-arc : goal.is_ahead-requires-clause-arc
-is_ahead-requires-clause-arc g c κs outlives = (c.requires.may.number, c.requires.may.is_arc)
+is_ahead-requires-clause-arc g c κs outlives = record {
+  in_time = g.K.Known.within c.args.entry.node c.args.entry.key c.requires.may.may_scan.is_known;
+  number = c.requires.may.number;
+  is_arc = c.requires.may.is_arc;
+}
 
 pub ask_and_offer-requires-clause-may : goal.ask_and_offer-requires-clause-may
 ask_and_offer-requires-clause-may g c κs outlives =

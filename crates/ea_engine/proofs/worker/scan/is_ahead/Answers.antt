@@ -18,7 +18,7 @@ returns g c = record {
   followed = λ is arrival answer within.
       let ground = c.requires.seat.is_ground in
       let low : c.read.result ≤ c.args.departure = grind (arith, nat_tests) in
-      let asked = is_question g.K.Posed.problem.network (g.T.TravelTimes.classes c.args.ground.now.times.now) c.requires.arc.0 c.args.departure c.args.arc ground.posed.network ground.classed c.requires.arc.1 c.requires.departure in
+      let asked = is_question g.K.Posed.problem.network (g.T.TravelTimes.classes c.args.ground.now.times.now) c.requires.arc.number c.args.departure c.args.arc ground.posed.network ground.classed c.requires.arc.is_arc c.requires.arc.in_time in
       let late = ground.fifo.not_before c.args.arc.class c.args.arc.weight c.args.departure arrival asked ((ground.named.answers_are _ _ _ _).1 answer) in
       IsReachedBy-noted _ _ c.args.arc.head c.read.result arrival (ap (λ x. x.bounds) c.read.ensures.gains) (omega (arith, low, late));
 }

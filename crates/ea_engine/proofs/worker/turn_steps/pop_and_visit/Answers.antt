@@ -12,46 +12,52 @@ pop_drawn-requires-clause-may g c κs outlives = record {
   few = c.requires.may.equipped.batch_few;
 }
 
-pub returns-in-Empty-clause-turn : goal.returns-in-Empty-clause-turn
-returns-in-Empty-clause-turn g c = record {
-  means =
-      let held = c.requires.may.equipped.are_held in
-      record {
-        seats = record { labels = held.seats.labels; pool = c.in-Empty.ensures.of_pool };
-        taken_known = known_nothing g.K.Known.is_known _ c.in-Empty.ensures.popped.1;
-        fresh_known = held.fresh_known;
-      };
-  turn =
-      let t = c.idle_turn.ensures in
-      let drawn = c.in-Empty.ensures in
-      record {
-        turn = IsTurn-idle _ _ _ _ _ _ _ _ _ _ _ _ _
-            drawn.popped.0 c.requires.may.none drawn.popped.1 c.requires.may.equipped.room drawn.words_are
-            t.number_is (ap is_idle t.kind_is) t.shaped t.lowered t.broken t.pops t.pushes
-            (λ whole. rw t.kind_is (drawn.nothing whole));
-        pushes = omega (arith, t.pushes);
-      };
+pub returns-in-Empty : goal.returns-in-Empty
+returns-in-Empty g c = record {
+  turn = record {
+    means =
+        let held = c.requires.may.equipped.are_held in
+        record {
+          seats = record { labels = held.seats.labels; pool = c.in-Empty.ensures.of_pool };
+          taken_known = known_nothing g.K.Known.is_known _ c.in-Empty.ensures.popped.1;
+          fresh_known = held.fresh_known;
+        };
+    turn =
+        let t = c.idle_turn.ensures in
+        let drawn = c.in-Empty.ensures in
+        record {
+          turn = IsTurn-idle _ _ _ _ _ _ _ _ _ _ _ _ _
+              drawn.popped.0 c.requires.may.none drawn.popped.1 c.requires.may.equipped.room drawn.words_are
+              t.number_is (ap is_idle t.kind_is) t.shaped t.lowered t.broken t.pops t.pushes
+              (λ whole. rw t.kind_is (drawn.nothing whole));
+          pushes = omega (arith, t.pushes);
+        };
+  };
+  saw = rw c.idle_turn.ensures.kind_is c.in-Empty.ensures.looked;
 }
 
-pub returns-in-Busy-clause-turn : goal.returns-in-Busy-clause-turn
-returns-in-Busy-clause-turn g c = record {
-  means =
-      let held = c.requires.may.equipped.are_held in
-      record {
-        seats = record { labels = held.seats.labels; pool = c.in-Busy.ensures.of_pool };
-        taken_known = known_nothing g.K.Known.is_known _ c.in-Busy.ensures.popped.1;
-        fresh_known = held.fresh_known;
-      };
-  turn =
-      let t = c.idle_turn-in-Busy.ensures in
-      let drawn = c.in-Busy.ensures in
-      record {
-        turn = IsTurn-idle _ _ _ _ _ _ _ _ _ _ _ _ _
-            drawn.popped.0 c.requires.may.none drawn.popped.1 c.requires.may.equipped.room drawn.words_are
-            t.number_is (ap is_idle t.kind_is) t.shaped t.lowered t.broken t.pops t.pushes
-            (λ whole. rw t.kind_is (drawn.alone whole));
-        pushes = omega (arith, t.pushes);
-      };
+pub returns-in-Busy : goal.returns-in-Busy
+returns-in-Busy g c = record {
+  turn = record {
+    means =
+        let held = c.requires.may.equipped.are_held in
+        record {
+          seats = record { labels = held.seats.labels; pool = c.in-Busy.ensures.of_pool };
+          taken_known = known_nothing g.K.Known.is_known _ c.in-Busy.ensures.popped.1;
+          fresh_known = held.fresh_known;
+        };
+    turn =
+        let t = c.idle_turn-in-Busy.ensures in
+        let drawn = c.in-Busy.ensures in
+        record {
+          turn = IsTurn-idle _ _ _ _ _ _ _ _ _ _ _ _ _
+              drawn.popped.0 c.requires.may.none drawn.popped.1 c.requires.may.equipped.room drawn.words_are
+              t.number_is (ap is_idle t.kind_is) t.shaped t.lowered t.broken t.pops t.pushes
+              (λ whole. rw t.kind_is (drawn.alone whole));
+          pushes = omega (arith, t.pushes);
+        };
+  };
+  saw = rw c.idle_turn-in-Busy.ensures.kind_is c.in-Busy.ensures.looked;
 }
 
 pub visit_first-end-requires-clause-may : goal.visit_first-end-requires-clause-may
@@ -73,24 +79,18 @@ visit_first-end-requires-clause-may g c κs outlives =
       some = took_some g.K.Known.is_known _ _ _ _ _ _ t;
     }
 
-pub returns-in-Entries-clause-turn : goal.returns-in-Entries-clause-turn
-returns-in-Entries-clause-turn g c = record {
-  means = c.visit_first-end.ensures.means;
-  turn =
-      let drawn = c.in-Entries.ensures in
-      record {
-        turn = IsTurn-popped _ _ _ g.K.Known.is_known _ _ _ _ _ _ _ _ _ _ _
-            c.requires.may.none drawn.popped drawn.words_are
-            (λ node time known. omega (arith, g.K.Known.within node time known)) c.visit_first-end.ensures.visit;
-        pushes = omega (arith, c.visit_first-end.ensures.visit.visit.pushes);
-      };
+pub returns-in-Entries : goal.returns-in-Entries
+returns-in-Entries g c = record {
+  turn = record {
+    means = c.visit_first-end.ensures.means;
+    turn =
+        let drawn = c.in-Entries.ensures in
+        record {
+          turn = IsTurn-popped _ _ _ g.K.Known.is_known _ _ _ _ _ _ _ _ _ _ _
+              c.requires.may.none drawn.popped drawn.words_are
+              (λ node time known. omega (arith, g.K.Known.within node time known)) c.visit_first-end.ensures.visit;
+          pushes = omega (arith, c.visit_first-end.ensures.visit.visit.pushes);
+        };
+  };
+  saw = SawAs-visited c.visit_first-end.result.turn.kind _ _ _ _ _ _ _ c.visit_first-end.ensures.visit.visit.visited;
 }
-
-pub returns-in-Empty-clause-saw : goal.returns-in-Empty-clause-saw
-returns-in-Empty-clause-saw g c = rw c.idle_turn.ensures.kind_is c.in-Empty.ensures.looked
-
-pub returns-in-Busy-clause-saw : goal.returns-in-Busy-clause-saw
-returns-in-Busy-clause-saw g c = rw c.idle_turn-in-Busy.ensures.kind_is c.in-Busy.ensures.looked
-
-pub returns-in-Entries-clause-saw : goal.returns-in-Entries-clause-saw
-returns-in-Entries-clause-saw g c = SawAs-visited c.visit_first-end.result.turn.kind _ _ _ _ _ _ _ c.visit_first-end.ensures.visit.visit.visited

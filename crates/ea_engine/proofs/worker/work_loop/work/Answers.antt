@@ -16,7 +16,7 @@ turns-init g c =
       };
       tracer = c.requires.tracer;
       small = omega arith;
-      so_far = rw (lists.taken, lists.fresh) (SoFar-start _ _ _ _ _ _ _ _ c.new-counters.ensures.turns c.new-counters.ensures.pops c.new-counters.ensures.pushes refl refl refl c.requires.pace.some_batch);
+      so_far = rw (lists.taken, lists.fresh) (SoFar-start _ _ _ _ _ _ _ _ c.new-counters.ensures.turns c.new-counters.ensures.pops c.new-counters.ensures.pushes refl refl refl c.requires.may.is_pace.some_batch);
     }
 
 pub turns-preserved : goal.turns-preserved
@@ -28,52 +28,50 @@ turns-preserved g c = record {
       c.take_turn-end.ensures.turn.turn c.take_turn-end.ensures.turn.pushes c.tracer-flow.ensures c.count.ensures c.idle_after-idle.ensures c.is_last-ended.ensures;
 }
 
-pub returns-clause-work : goal.returns-clause-work
-returns-clause-work g c =
+pub returns : goal.returns
+returns g c =
     let known = g.K.Known.is_known in
-    let posed = c.requires.ground.posed in
-    SoFar-end _ _ _ _ _ _ _ _ _ _ _ _ _ _ c.turns.invariant.so_far (omega (arith, c.turns.invariant.small, c.requires.pace.turns)) (elim c.turns-test.branch [
-      | then-turns-test+then-idle-pace+else-number-pace w ↦ inr (inr w.if-number-pace.false)
-      | then-turns-test+else-idle-pace w ↦ inr (inl w.if-idle-pace.false)
-      | else-turns-test w ↦ inl w.turns-test.false
-    ]) refl refl refl refl
-    (known_inside known g.K.Posed.problem _ posed c.turns.invariant.held.taken_known) (known_inside known g.K.Posed.problem _ posed c.turns.invariant.held.fresh_known)
-    (fresh_of_lowered _ _ _ _ _ _ _ _ _ _ _ _ _ c.turns.invariant.so_far refl)
-    c.close.ensures
+    let posed = c.requires.may.is_ground.posed in
+    record {
+      seats = c.turns.invariant.held.seats;
+      work = SoFar-end _ _ _ _ _ _ _ _ _ _ _ _ _ _ c.turns.invariant.so_far (omega (arith, c.turns.invariant.small, c.requires.may.is_pace.turns)) (elim c.turns-test.branch [
+        | then-turns-test+then-idle-pace+else-number-pace w ↦ inr (inr w.if-number-pace.false)
+        | then-turns-test+else-idle-pace w ↦ inr (inl w.if-idle-pace.false)
+        | else-turns-test w ↦ inl w.turns-test.false
+      ]) refl refl refl refl
+          (known_inside known g.K.Posed.problem _ posed c.turns.invariant.held.taken_known) (known_inside known g.K.Posed.problem _ posed c.turns.invariant.held.fresh_known)
+          (fresh_of_lowered _ _ _ _ _ _ _ _ _ _ _ _ _ c.turns.invariant.so_far refl)
+          c.close.ensures;
+    }
 
 pub take_turn-end-requires-clause-may : goal.take_turn-end-requires-clause-may
 take_turn-end-requires-clause-may g c κs outlives = record {
   equipped = record {
-    is_ground = c.requires.ground;
-    target_is = c.target-target.ensures.target ∙ ap (λ q. q.target) c.requires.ground.named.query_is;
+    is_ground = c.requires.may.is_ground;
+    target_is = c.target-target.ensures.target ∙ ap (λ q. q.target) c.requires.may.is_ground.named.query_is;
     are_held = c.turns.invariant.held;
     room = omega (arith, c.turns.invariant.so_far.fresh_left c.turns-test.true);
-    batch_few = omega (arith, c.requires.pace.batch);
+    batch_few = omega (arith, c.requires.may.is_pace.batch);
   };
   few = omega (arith, c.turns.invariant.so_far.taken_few);
 }
 
-pub close-requires-clause-fresh : goal.close-requires-clause-fresh
-close-requires-clause-fresh g c = fresh_of_lowered _ _ _ _ _ _ _ _ _ _ _ _ _ c.turns.invariant.so_far refl
-
-pub count-requires-clause-room : goal.count-requires-clause-room
-count-requires-clause-room g c = SoFar-roomy _ _ _ _ _ _ _ _ _ _ _ _ _ c.turns.invariant.so_far (omega (arith, c.turns.invariant.small, c.requires.pace.turns))
-
-pub count-requires-clause-end : goal.count-requires-clause-end
-count-requires-clause-end g c = record {
+pub count-requires : goal.count-requires
+count-requires g c = record {
+  room = SoFar-roomy _ _ _ _ _ _ _ _ _ _ _ _ _ c.turns.invariant.so_far (omega (arith, c.turns.invariant.small, c.requires.may.is_pace.turns));
   lowered = c.take_turn-end.ensures.turn.turn.few;
   pops = pops_once c.take_turn-end.result.turn.kind _ c.take_turn-end.ensures.turn.turn.pops;
   pushes = omega (arith, c.take_turn-end.ensures.turn.pushes, c.take_turn-end.ensures.turn.turn.few);
 }
 
 pub idle_after-idle-requires : goal.idle_after-idle-requires
-idle_after-idle-requires g c = omega (arith, c.if-idle-pace.true, c.requires.pace.patience)
+idle_after-idle-requires g c = omega (arith, c.if-idle-pace.true, c.requires.may.is_pace.patience)
 
 pub turns-smaller : goal.turns-smaller
 turns-smaller g c = omega (arith, c.if-number-pace.true)
 
-pub close-requires-clause-room : goal.close-requires-clause-room
-close-requires-clause-room g c = SoFar-roomy _ _ _ _ _ _ _ _ _ _ _ _ _ c.turns.invariant.so_far (omega (arith, c.turns.invariant.small, c.requires.pace.turns))
-
-pub returns-clause-seats : goal.returns-clause-seats
-returns-clause-seats g c = c.turns.invariant.held.seats
+pub close-requires : goal.close-requires
+close-requires g c = record {
+  room = SoFar-roomy _ _ _ _ _ _ _ _ _ _ _ _ _ c.turns.invariant.so_far (omega (arith, c.turns.invariant.small, c.requires.may.is_pace.turns));
+  few = fresh_of_lowered _ _ _ _ _ _ _ _ _ _ _ _ _ c.turns.invariant.so_far refl;
+}

@@ -1,6 +1,7 @@
 use Rattle.std.proofs.Common.{◌≡◌, ◌≢◌, ℕ, ◌+◌, ◌-◌, ◌*◌, ◌%◌, ◌<◌, List, length, get_or, set, refl, ◌∙◌, arith, below_more, length-set, get_or-set_other, get_or-set_same}
 use Rattle.std.proofs.lemmas.Bool.Decides.{nat_tests}
 use Rattle.std.specs.Prelude.{◌==◌, if◌then◌else◌}
+use Rattle.ea_engine.specs.Homes.{IsWordAt}
 use Rattle.ea_engine.proofs.worker.home_heaps.Homing.new.Goals as goal
 use Rattle.ea_engine.proofs.worker.home_heaps.Homing.new.Goals.{then-at-eq0, else-at-eq0}
 
@@ -26,12 +27,13 @@ loop-place-preserved g c =
     let here : place < length c.loop-place.words = omega (arith, inv.len) in
     record {
       len = length-set c.loop-place.words place c.word_at.result ∙ inv.len;
-      draws = one_more (λ k word. word % all ≡ c.args.worker * c.args.heaps + k % c.args.heaps) _ _ _ here inv.draws c.word_at.ensures.draws;
-      leads = one_more (λ k word. word % (all - 1) ≡ (if k % c.args.heaps == 0 then all - c.args.heaps else 0)) _ _ _ here inv.leads
-          (c.word_at.ensures.leads ∙ elim c.if-at-eq0.branch [
-            | then-at-eq0 w ↦ w.step-is ∙ where_zero (place % c.args.heaps) _ 0 w.if-at-eq0.true
-            | else-at-eq0 w ↦ w.step-is ∙ where_more (place % c.args.heaps) (all - c.args.heaps) 0 w.if-at-eq0.false
-          ]);
+      own = one_more (λ k word. IsWordAt all (if k % c.args.heaps == 0 then all - c.args.heaps else 0) (c.args.worker * c.args.heaps + k % c.args.heaps) word) _ _ _ here inv.own (record {
+        draws = c.word_at.ensures.draws;
+        leads = c.word_at.ensures.leads ∙ elim c.if-at-eq0.branch [
+          | then-at-eq0 w ↦ w.step-is ∙ where_zero (place % c.args.heaps) _ 0 w.if-at-eq0.true
+          | else-at-eq0 w ↦ w.step-is ∙ where_more (place % c.args.heaps) (all - c.args.heaps) 0 w.if-at-eq0.false
+        ];
+      });
     }
 
 pub returns : goal.returns
@@ -41,8 +43,5 @@ returns g c =
       below_is = refl;
       first = refl;
       all_heaps = refl;
-      own = record {
-        draws = λ k lower. inv.draws k (omega (arith, lower, c.loop-place-test.false));
-        leads = λ k lower. inv.leads k (omega (arith, lower, c.loop-place-test.false));
-      };
+      own = λ k lower. inv.own k (omega (arith, lower, c.loop-place-test.false));
     }
