@@ -17,7 +17,7 @@ use Rattle.ea_pool.specs.States.{take_at, saw, took, pushed, popped}
 use Rattle.ea_pool.specs.Plays.{Place, value_of, Surveys, Took, PutsPushed, PutsPopped}
 use Rattle.ea_pool.specs.Pools.{HoldsHeap, IsHeld, AreInTime, Rests, books, Pushes, PushesAll, Pops, PopsAll, IsLeft, AreLeft}
 use Rattle.ea_pool.specs.Tries.{TookThere, TookLeast}
-use Rattle.ea_pool.specs.Batches.{GoesIn, ComesOut, PushesFrom, PopsSome}
+use Rattle.ea_pool.specs.Batches.{GoesIn, GoesInUntil, ComesOut, PushesFrom, PopsSome}
 use Rattle.ea_pool.proofs.Weights.{only-same, one_entry, known_one}
 use Rattle.ea_pool.proofs.HeapOrder.{face_is, least_of_part}
 use Rattle.ea_pool.proofs.Batching.{comes_some, comes_enough}
@@ -134,6 +134,10 @@ module _ (known : ℕ → ℕ → Type 0) (kind : HeapKind) where
     pub took_there : TookThere kind k v.seen m₃.0.last_take
     took_there = (t.0, x, t.2, ap (λ (a : SeatMemory). a.last_take) after_pushes)
 
+  -- the seat keeps its shares while it holds a heap
+  pub still_shares : (m m₁ m₂ : Place) (k x : ℕ) → Took known kind m k x m₁ → m₂.0 ≡ m₁.0 → 0 < m.0.shares → 0 < m₂.0.shares
+  still_shares m m₁ m₂ k x t view some = subst (λ (a : SeatMemory). 0 < a.shares) (sym (view ∙ ap (λ (n : Place). n.0) t.1)) some
+
   -- the condition for returning the heap with one more entry
   pub gives_one : (m m₁ m₂ : Place) (k x : ℕ) (e : Entry) (answer : Result (Unit {0}) Entry) (word : ℕ) → Took known kind m k x m₁ → m₂.0 ≡ m₁.0 → answer ≡ Ok tt
       → HoldsHeap m₁ k (λ es. HoldsHeap m₂ k (λ left. MatchResult answer (λ _. SameEntries left (e ∷ es)) (λ back. (back ≡ e) × (left ≡ es)) × Shows kind word left))
@@ -195,15 +199,16 @@ module _ (known : ℕ → ℕ → Type 0) (kind : HeapKind) where
     )
 
     module _
+        {all : Bool}
         (m₂ : Place)
         (after : List Entry)
         (word : ℕ)
         (view : m₂.0 ≡ m₁.0)
-        (moves : HoldsHeap m₁ k (λ es. HoldsHeap m₂ k (λ left. GoesIn before after es left × Shows kind word left))) where
+        (moves : HoldsHeap m₁ k (λ es. HoldsHeap m₂ k (λ left. GoesInUntil all before after es left × Shows kind word left))) where
       goes : GoesIn before after t.0 moves.2.0
       goes =
           let same : moves.0 ≡ t.0 = ap (λ (c : List (ℕ × List Entry)). value_of c) (sym moves.1) ∙ ap (λ (n : Place). value_of n.1) t.1 in
-          subst (λ (es : List Entry). GoesIn before after es moves.2.0) same moves.2.2.0
+          subst (λ (es : List Entry). GoesIn before after es moves.2.0) same moves.2.2.0.goes
 
       pub gives_batch : HoldsHeap m₂ k (λ left. IsHeld m₂.0 k (λ es. Shows kind word left × HasMore es left (AreKnown known)))
       gives_batch = (

@@ -1,5 +1,5 @@
 -- Multisets of entries, as lists compared by weight, and the order of entries.
-use Rattle.std.specs.Prelude.{◌≡◌, ℕ, ◌<◌, ◌≤◌, List, [], ◌∷◌, ◌++◌, min, cond, ◌==◌, ◌&&◌, Option, Some, None}
+use Rattle.std.specs.Prelude.{◌≡◌, ℕ, ◌<◌, ◌≤◌, List, [], ◌∷◌, ◌++◌, min, cond, ◌==◌, ◌&&◌, Option, Some, None, Result, MatchResult}
 use Rattle.std.specs.List.{AllByRecursion}
 use Rattle.std.specs.Ordering.{nat_cmp, ordering_then}
 use Rattle.std.specs.declared.cmp.Ordering.{Ordering}
@@ -78,3 +78,7 @@ lower key (Some least) = Some (min key least)
 abbrev pub least_key : List Entry → Option ℕ
 least_key [] = None
 least_key (e ∷ es) = lower e.key (least_key es)
+
+-- The entry is among those of a heap now; or it was refused, and nothing changed.
+abbrev pub GoesInOrBack : Result (Unit {0}) Entry → Entry → List Entry → List Entry → Type 0
+GoesInOrBack result entry before after = MatchResult result (λ _. SameEntries after (entry ∷ before)) (λ back. (back ≡ entry) × (after ≡ before))

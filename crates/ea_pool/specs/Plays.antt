@@ -1,6 +1,6 @@
 -- A pool as an `atomic_table`, and what each step says of the seat before, the number found and the seat
 -- after.
-use Rattle.std.specs.Prelude.{◌≡◌, ◌≢◌, ℕ, ◌+◌, ◌*◌, ◌<◌, ◌≤◌, List, [], ◌∷◌, ◌++◌, length, None, slice_index, slice_index_or}
+use Rattle.std.specs.Prelude.{◌≡◌, ◌≢◌, Bool, true, false, ℕ, ◌+◌, ◌*◌, ◌<◌, ◌≤◌, List, [], ◌∷◌, ◌++◌, length, None, slice_index, slice_index_or}
 use Rattle.std.specs.List.{AllByRecursion}
 use Rattle.atomic_table.specs.Table.{State, Me, Step, rest}
 use Rattle.ea_machine.specs.Totals.{total}
@@ -83,3 +83,15 @@ GavePushed st m r n = PutsPushed m n
 
 abbrev pub GaveBack : Step (List Entry) → Place → ℕ → Place → Type 0
 GaveBack st m r n = n ≡ (gave m.0, rest m.1)
+
+-- A seat saw this word of a heap. With all shares it knows the words of all heaps.
+pub record SeesWord (known : ℕ → ℕ → Type 0) (kind : HeapKind) (heaps heap word : ℕ) (me me' : Place) : Type 0 where
+  pub saw_it : me' ≡ (saw me.0 heap word, me.1)
+  pub low : (word ≤ OUT) × (me.0.shares ≤ SHARES)
+  pub alone : me.0.shares ≡ SHARES → Surveys known kind heaps me'.0
+
+-- Whether a seat took a heap under this word. It does, if it has all shares and saw that word.
+pub record TakesHeap (known : ℕ → ℕ → Type 0) (kind : HeapKind) (heap word : ℕ) (me me' : Place) (taken : Bool) : Type 0 where
+  pub took : taken ≡ true → Took known kind me heap word me'
+  pub missed : taken ≡ false → me' ≡ (forgot me.0, me.1)
+  pub alone : me.0.shares ≡ SHARES → AllByRecursion (λ p. heap ≡ p.0 → word ≡ p.1 → taken ≡ true) me.0.seen

@@ -1,5 +1,5 @@
 -- The calls on heaps of one thread. The heaps are the list of their contents.
-use Rattle.std.specs.Prelude.{◌≡◌, ◌≢◌, ◌+◌, ◌<◌, ◌≤◌, length, ℕ, List, [], ◌∷◌, Option, Some, None, cond, nat_lt, min, ◌==◌, slice_index_or, slice_set}
+use Rattle.std.specs.Prelude.{◌≡◌, ◌≢◌, ◌⊎◌, ◌+◌, ◌<◌, ◌≤◌, length, ℕ, List, [], ◌∷◌, Option, Some, None, cond, nat_lt, min, ◌==◌, slice_index_or, slice_set}
 use Rattle.ea_pool.specs.declared.heap.entry.Entry.{Entry}
 use Rattle.ea_machine.specs.Totals.{total}
 use Rattle.ea_pool.specs.Entries.{SameEntries, IsLeastOf, least_key}
@@ -13,6 +13,12 @@ lesser i None j None = i
 lesser i None j (Some y) = j
 lesser i (Some x) j None = i
 lesser i (Some x) j (Some y) = cond (nat_lt y x) j (cond (x == y) (min i j) i)
+
+-- The lesser of two words with its heap; if they are equal, the heap with the lower number.
+pub record IsLesser (i x j y : ℕ) (picked : ℕ × ℕ) : Type 0 where
+  pub one : (picked ≡ (i, x)) ⊎ (picked ≡ (j, y))
+  pub least : picked.1 ≡ min x y
+  pub lesser_is : picked.0 ≡ lesser i (Some x) j (Some y)
 
 abbrev pub lesser_heap : List (List Entry) → ℕ → ℕ → ℕ
 lesser_heap heaps i j = lesser i (least_key (content heaps i)) j (least_key (content heaps j))

@@ -1,7 +1,7 @@
 //! Choosing the heaps that a call inspects.
-ghost use Rattle.std.specs.Prelude.{◌≡◌, ◌≢◌, ◌*◌, ◌<◌, ◌≤◌, ◌⊎◌, min, Some};
-ghost use Rattle.ea_pool.specs.Draws.{first_draw, second_draw, try_draw};
-ghost use Rattle.ea_pool.specs.Solos.{lesser};
+ghost use Rattle.std.specs.Prelude.{◌≢◌, ◌*◌, ◌<◌, ◌≤◌};
+ghost use Rattle.ea_pool.specs.Draws.{first_draw, second_draw, try_draw, IsDraw};
+ghost use Rattle.ea_pool.specs.Solos.{IsLesser};
 
 use crate::shared::words::MOST_IN_POOL;
 use ea_base::LEAST_HEAPS;
@@ -9,8 +9,7 @@ use ea_base::LEAST_HEAPS;
 /// The first heap of a pop, by its first word. Of several workers it is an own heap (`Homing`).
 pub fn draw_first(heaps: usize, first: u64) -> usize
     requires { (LEAST_HEAPS ≤ heaps) × (heaps ≤ MOST_IN_POOL) }
-    ensures draw { result ≡ first_draw heaps first }
-    ensures near { result < heaps }
+    ensures { IsDraw heaps (first_draw heaps first) result }
 {
     (first % heaps as u64) as usize
 }
@@ -18,8 +17,7 @@ pub fn draw_first(heaps: usize, first: u64) -> usize
 /// The second heap of a pop, another one. The pop takes from the one with the lesser word.
 pub fn draw_second(heaps: usize, first: u64, second: u64) -> usize
     requires { (LEAST_HEAPS ≤ heaps) × (heaps ≤ MOST_IN_POOL) }
-    ensures draw { result ≡ second_draw heaps first second }
-    ensures near { result < heaps }
+    ensures draw { IsDraw heaps (second_draw heaps first second) result }
     ensures other { result ≢ first_draw heaps first }
 {
     let heaps = heaps as u64;
@@ -31,8 +29,7 @@ pub fn draw_second(heaps: usize, first: u64, second: u64) -> usize
 /// The heap of a push's attempt, from 0: in turn, beginning at the first draw.
 pub fn draw_try(heaps: usize, word: u64, attempt: usize) -> usize
     requires { (LEAST_HEAPS ≤ heaps) × (heaps ≤ MOST_IN_POOL) × (attempt < 2 * heaps) }
-    ensures draw { result ≡ try_draw heaps word attempt }
-    ensures near { result < heaps }
+    ensures { IsDraw heaps (try_draw heaps word attempt) result }
 {
     // The first attempt, often the only one, takes no second division.
     let place = draw_first(heaps, word) + attempt;
@@ -41,9 +38,7 @@ pub fn draw_try(heaps: usize, word: u64, attempt: usize) -> usize
 
 /// The lesser word with its heap; if the words are equal, the heap with the lower number.
 pub fn pick(i: usize, x: u64, j: usize, y: u64) -> (usize, u64)
-    ensures one { (result ≡ (i, x)) ⊎ (result ≡ (j, y)) }
-    ensures least { result.1 ≡ min x y }
-    ensures lesser { result.0 ≡ lesser i (Some x) j (Some y) }
+    ensures { IsLesser i x j y result }
 {
     if y < x || (y == x && j < i) {
         (j, y)

@@ -1,7 +1,7 @@
 //! Batches: several entries pushed to a heap, or popped from one, at once.
-ghost use Rattle.std.specs.Prelude.{◌≡◌, ◌+◌, ◌<◌, ◌≤◌, true, false, []};
+ghost use Rattle.std.specs.Prelude.{◌+◌, ◌≤◌};
 ghost use Rattle.arrayvec.specs.ArrayVec.{array_vec_len};
-ghost use Rattle.ea_pool.specs.Batches.{GoesIn, ComesOut};
+ghost use Rattle.ea_pool.specs.Batches.{ComesOut, GoesInUntil};
 
 use crate::heap::entry::Entry;
 use crate::heap::entry_heap::{EntryHeap, Slot};
@@ -13,9 +13,7 @@ pub type Batch = ArrayVec<Entry, MOST_IN_BATCH>;
 
 // Pushes the entries of a batch, the last first, until memory is refused. The rest stays in the batch.
 pub(crate) fn push_all<H: EntryHeap>(heap: &mut Slot<H>, batch: &mut Batch) -> bool
-    ensures went { GoesIn batch.old.items batch.new.items heap.old heap.new }
-    ensures all { result ≡ true → batch.new.items ≡ [] }
-    ensures some { result ≡ false → 0 < array_vec_len batch.new }
+    ensures { GoesInUntil result batch.old.items batch.new.items heap.old heap.new }
 {
     for _ in 0..batch.len() {
         let Some(entry) = batch.pop() else {

@@ -1,6 +1,6 @@
 //! The heaps of a pool, and the slots that hold them.
-ghost use Rattle.std.specs.Prelude.{◌≡◌, [], ◌∷◌, List, IfErr, IfOk, OnOk, MatchOption};
-ghost use Rattle.ea_pool.specs.Entries.{SameEntries};
+ghost use Rattle.std.specs.Prelude.{◌≡◌, [], List, IfOk, MatchOption};
+ghost use Rattle.ea_pool.specs.Entries.{GoesInOrBack};
 ghost use Rattle.ea_pool.specs.Kinds.{HeapKind, Shows, GivesOne, IsSpentAs};
 ghost use Rattle.ea_pool.specs.Pools.{AreInTime};
 ghost use Rattle.ea_pool.specs.declared.heap.entry.Entry.{Entry as Held};
@@ -20,9 +20,7 @@ pub trait EntryHeap: Drop {
 
     /// Adds an entry. Returns it if memory was refused.
     fn add_entry(&mut self, entry: Entry) -> Result<(), Entry>
-        ensures pushed { OnOk result (SameEntries (entries self.new) (entry ∷ entries self.old)) }
-        ensures refused { IfErr result
-            (λ back. (back ≡ entry) × (entries self.new ≡ entries self.old)) };
+        ensures { GoesInOrBack result entry (entries self.old) (entries self.new) };
 
     /// Pops an entry. None exactly if there is none.
     fn take_entry(&mut self) -> Option<Entry>
@@ -71,8 +69,7 @@ impl<H: EntryHeap> Slot<H> {
 
     /// Adds an entry. Returns it if memory was refused.
     pub(crate) fn push(&mut self, entry: Entry) -> Result<(), Entry>
-        ensures pushed { OnOk result (SameEntries self.new (entry ∷ self.old)) }
-        ensures refused { IfErr result (λ back. (back ≡ entry) × (self.new ≡ self.old)) }
+        ensures { GoesInOrBack result entry self.old self.new }
     {
         self.heap.add_entry(entry)
     }

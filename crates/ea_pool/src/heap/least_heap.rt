@@ -1,7 +1,7 @@
 //! A binary heap.
-ghost use Rattle.std.specs.Prelude.{◌≡◌, ◌<◌, [], ◌∷◌, length, List, map, IfErr, OnOk, MatchOption};
+ghost use Rattle.std.specs.Prelude.{◌≡◌, ◌<◌, [], ◌∷◌, length, List, map, MatchOption};
 ghost use Rattle.std.specs.BinaryHeap.{IsHeap, heap_items};
-ghost use Rattle.ea_pool.specs.Entries.{SameEntries, IsLeastOf, times, least_key};
+ghost use Rattle.ea_pool.specs.Entries.{GoesInOrBack, SameEntries, IsLeastOf, times, least_key};
 
 use crate::OutOfMemory;
 use crate::heap::entry::Entry;
@@ -56,8 +56,7 @@ impl<A: Allocator> LeastHeap<A> {
 
     /// Adds an entry. Returns it if memory was refused.
     pub fn push(&mut self, entry: Entry) -> Result<(), Entry>
-        ensures pushed { OnOk result (SameEntries self.new (entry ∷ self.old)) }
-        ensures refused { IfErr result (λ back. (back ≡ entry) × (self.new ≡ self.old)) }
+        ensures { GoesInOrBack result entry self.old self.new }
     {
         match self.entries.push(Reverse(entry)) {
             Ok(()) => Ok(()),

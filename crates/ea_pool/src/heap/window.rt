@@ -1,5 +1,5 @@
 //! Unordered entries with a lower bound of their times.
-ghost use Rattle.std.specs.Prelude.{◌≡◌, [], ◌∷◌, ◌++◌, List, true, false, length, MatchOption};
+ghost use Rattle.std.specs.Prelude.{◌≡◌, ◌↔◌, [], ◌∷◌, ◌++◌, IsTrue, List, true, false, length, MatchOption};
 ghost use Rattle.ea_pool.specs.Windows.{IsFloorOf};
 ghost use Rattle.ea_pool.specs.declared.heap.entry.Entry.{Entry as Inside};
 
@@ -49,8 +49,7 @@ impl<A: Allocator> Window<A> {
 
     /// Whether there is no entry.
     pub(crate) fn is_empty(&self) -> bool
-        ensures none { result ≡ true → self.now ≡ [] }
-        ensures some { result ≡ false → self.now ≡ [] → ⊥ }
+        ensures { IsTrue result ↔ (self.now ≡ []) }
     {
         self.entries.is_empty()
     }

@@ -1,13 +1,9 @@
 //! Attempts: a heap is taken, used and returned.
-ghost use Rattle.std.specs.Prelude.{◌≡◌, ◌≢◌, ◌*◌, ◌<◌, [], ◌∷◌};
-ghost use Rattle.std.specs.List.{AllByRecursion};
-ghost use Rattle.ea_pool.specs.Kinds.{Least};
-ghost use Rattle.ea_pool.specs.Pools.{books, SameBooks, Pops, IsLeft, IsLeastLeft, NothingLeft};
-ghost use Rattle.ea_pool.specs.Pools.{IsAtRest, MayTry, RestsAgain};
-ghost use Rattle.ea_pool.specs.Replies.{IsPush, OnBusy, UnlessBusy, MatchPopped, OnPopped};
-ghost use Rattle.ea_pool.specs.Tries.{LookedAt, WasBusy, MissedHeap, Missed, TookThere, TookAtTry, TookLeast, TookLesser};
+ghost use Rattle.std.specs.Prelude.{◌≢◌, ◌*◌, ◌<◌};
+ghost use Rattle.ea_pool.specs.Pools.{books, view_of, IsAtRest, MayTry, RestsAgain};
+ghost use Rattle.ea_pool.specs.Replies.{IsPop, IsPopAt, IsPush, MatchBusy};
+ghost use Rattle.ea_pool.specs.Tries.{MissedHeap, Missed, TookThere, TookAtTry};
 
-use crate::SHARES;
 use crate::draws::{draw_try, pick};
 use crate::heap::entry::Entry;
 use crate::heap::entry_heap::EntryHeap;
@@ -31,8 +27,8 @@ impl<K: Known, A: Allocator, H: EntryHeap> Pool<K, A, H> {
         requires known { K.is_known entry.node entry.key }
         ensures seat { RestsAgain seat.old.table_id seat.new.table_id seat.new.me }
         ensures push { IsPush result (books seat.old.me.0) (books seat.new.me.0) entry }
-        ensures missed { OnBusy result (MissedHeap heap seat.old.me.0.seen seat.new.me.0.seen) }
-        ensures took { UnlessBusy result
+        ensures tried { MatchBusy result
+            (MissedHeap heap seat.old.me.0.seen seat.new.me.0.seen)
             (TookThere H.kind heap seat.old.me.0.seen seat.new.me.0.last_take) }
     {
         let seen = self.look(seat, heap);
@@ -62,10 +58,9 @@ impl<K: Known, A: Allocator, H: EntryHeap> Pool<K, A, H> {
         requires known { K.is_known entry.node entry.key }
         ensures seat { RestsAgain seat.old.table_id seat.new.table_id seat.new.me }
         ensures push { IsPush result (books seat.old.me.0) (books seat.new.me.0) entry }
-        ensures missed { OnBusy result
+        ensures tried { MatchBusy result
             (Missed self.now.heaps word (2 * self.now.heaps)
-            seat.old.me.0.seen seat.new.me.0.seen) }
-        ensures took { UnlessBusy result
+            seat.old.me.0.seen seat.new.me.0.seen)
             (TookAtTry H.kind self.now.heaps word seat.old.me.0.seen seat.new.me.0.last_take) }
     {
         for attempt in 0..2 * self.heaps {
@@ -85,19 +80,8 @@ impl<K: Known, A: Allocator> Pool<K, A> {
         requires seat { MayTry self.now heap seat.old.table_id seat.old.me }
         requires some { seen < EMPTY }
         ensures seat { RestsAgain seat.old.table_id seat.new.table_id seat.new.me }
-        ensures popped { MatchPopped result
-            (λ entry. Pops (books seat.old.me.0) entry (books seat.new.me.0)
-            × K.is_known entry.node entry.key × (entry.key ≡ seen))
-            ⊥
-            (SameBooks (books seat.old.me.0) (books seat.new.me.0) × (seat.new.me.0.seen ≡ [])) }
-        ensures took { OnPopped result (λ entry.
-            TookLeast Least heap seen (entry ∷ []) seat.old.me.0.seen seat.new.me.0.last_take) }
-        ensures alone { seat.old.me.0.shares ≡ SHARES → AllByRecursion
-            (λ p. heap ≡ p.0 → seen ≡ p.1 → MatchPopped result (λ _. Unit {0}) ⊥ ⊥)
-            seat.old.me.0.seen }
-        ensures left { seat.old.me.0.shares ≡ SHARES
-            → MatchPopped result
-            (λ entry. IsLeft entry (books seat.old.me.0)) (Unit {0}) (Unit {0}) }
+        ensures pops { IsPopAt K.is_known heap seen (view_of seat.old.table_id seat.old.me)
+            (view_of seat.new.table_id seat.new.me) result }
     {
         if !self.take(seat, heap, seen) {
             return Popped::Busy;
@@ -116,21 +100,9 @@ impl<K: Known, A: Allocator> Pool<K, A> {
         requires seat { IsAtRest self.now seat.old.table_id seat.old.me }
         requires heaps { (i < self.now.heaps) × (j < self.now.heaps) × (i ≢ j) }
         ensures seat { RestsAgain seat.old.table_id seat.new.table_id seat.new.me }
-        ensures popped { MatchPopped result
-            (λ entry. Pops (books seat.old.me.0) entry (books seat.new.me.0)
-            × K.is_known entry.node entry.key)
-            (SameBooks (books seat.old.me.0) (books seat.new.me.0))
-            (SameBooks (books seat.old.me.0) (books seat.new.me.0)) }
-        ensures looked { MatchPopped result (λ entry. Unit {0})
-            (LookedAt i EMPTY j EMPTY seat.old.me.0.seen seat.new.me.0.seen)
-            (WasBusy i j seat.old.me.0.seen seat.new.me.0.seen) }
-        ensures lesser { OnPopped result (λ entry.
-            TookLesser Least i j (entry ∷ []) seat.old.me.0.seen seat.new.me.0.last_take) }
-        ensures alone { seat.old.me.0.shares ≡ SHARES
-            → MatchPopped result (λ _. Unit {0}) (Unit {0}) ⊥ }
-        ensures least { seat.old.me.0.shares ≡ SHARES → self.now.heaps ≡ 2 → MatchPopped result
-            (λ entry. IsLeastLeft entry (books seat.old.me.0))
-            (NothingLeft (books seat.old.me.0)) ⊥ }
+        ensures pops { IsPop K.is_known self.now.heaps i j
+            (view_of seat.old.table_id seat.old.me)
+            (view_of seat.new.table_id seat.new.me) result }
     {
         let x = self.look(seat, i);
         let y = self.look(seat, j);

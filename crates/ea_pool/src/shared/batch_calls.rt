@@ -1,17 +1,14 @@
 //! Pushes and pops of several entries at once.
-ghost use Rattle.std.specs.Prelude.{min, ◌≡◌, ◌≢◌, ◌+◌, ◌*◌, ◌<◌, ◌≤◌, true, false, [], ◌++◌};
-ghost use Rattle.std.specs.List.{AllByRecursion};
+ghost use Rattle.std.specs.Prelude.{◌≢◌, ◌+◌, ◌*◌, ◌<◌, ◌≤◌, ◌++◌};
 ghost use Rattle.arrayvec.specs.ArrayVec.{array_vec_len};
-ghost use Rattle.ea_pool.specs.Batches.{GoesIn, ComesOut, PushesFrom, PopsSome, IsLowest, MatchPushed, MatchSome};
+ghost use Rattle.ea_pool.specs.Batches.{ComesOut, GoesInUntil, IsBatchPop, IsBatchPopAt, IsBatchPush, MatchPushed};
 ghost use Rattle.ea_pool.specs.Draws.{first_draw, second_draw};
 ghost use Rattle.ea_pool.specs.Entries.{AreKnown};
 ghost use Rattle.ea_pool.specs.Kinds.{Shows};
-ghost use Rattle.ea_pool.specs.Pools.{books, HoldsHeap, AreInTime, SameBooks, PushesAll, NothingLeft};
-ghost use Rattle.ea_pool.specs.Pools.{IsAtRest, KeepsMemory, MayTry, RestsAgain};
+ghost use Rattle.ea_pool.specs.Pools.{books, view_of, AreInTime, IsAtRest, MayTry, MayUse, RestsAgain, UsesHeap};
 ghost use Rattle.ea_pool.specs.Seats.{account_of, heaps_of, IsSeatOf};
-ghost use Rattle.ea_pool.specs.Tries.{LookedAt, WasBusy, MissedHeap, Missed, TookThere, TookAtTry, TookLeast, TookLesser};
+ghost use Rattle.ea_pool.specs.Tries.{MissedHeap, Missed, TookThere, TookAtTry};
 
-use crate::SHARES;
 use crate::draws::{draw_first, draw_second, draw_try, pick};
 use crate::heap::batch::{Batch, pop_some, push_all};
 use crate::heap::entry_heap::EntryHeap;
@@ -25,13 +22,11 @@ use std::alloc::Allocator;
 impl<K: Known, A: Allocator, H: EntryHeap> Pool<K, A, H> {
     // Pushes entries into the heap that is held, and returns its new word.
     fn push_all_in(&self, seat: &mut Seat<H>, heap: usize, batch: &mut Batch) -> (bool, u64)
-        requires table { seat.old.table_id ≡ self.now.table }
-        requires held { HoldsHeap seat.old.me heap (λ es. AreInTime (batch.old.items ++ es)) }
-        ensures seat { KeepsMemory seat.old.table_id seat.new.table_id seat.old.me.0 seat.new.me.0 }
-        ensures moves { HoldsHeap seat.old.me heap (λ es. HoldsHeap seat.new.me heap (λ left.
-            GoesIn batch.old.items batch.new.items es left × Shows H.kind result.1 left)) }
-        ensures all { result.0 ≡ true → batch.new.items ≡ [] }
-        ensures some { result.0 ≡ false → 0 < array_vec_len batch.new }
+        requires may { MayUse self.now heap seat.old.table_id seat.old.me
+            (λ es. AreInTime (batch.old.items ++ es)) }
+        ensures { UsesHeap heap seat.old.table_id seat.new.table_id seat.old.me seat.new.me
+            (λ es left. GoesInUntil result.0 batch.old.items batch.new.items es left
+            × Shows H.kind result.1 left) }
     {
         let held = seat.slot_mut(&self.table.shared, heap);
         let all = push_all(held, batch);
@@ -40,13 +35,11 @@ impl<K: Known, A: Allocator, H: EntryHeap> Pool<K, A, H> {
 
     // Pops entries from the heap that is held, and returns its new word.
     fn pop_some_in(&self, seat: &mut Seat<H>, heap: usize, most: usize, batch: &mut Batch) -> u64
-        requires table { seat.old.table_id ≡ self.now.table }
-        requires held { HoldsHeap seat.old.me heap (λ es. AreInTime es) }
+        requires may { MayUse self.now heap seat.old.table_id seat.old.me AreInTime }
         requires room { array_vec_len batch.old + most ≤ MOST_IN_BATCH }
-        ensures seat { KeepsMemory seat.old.table_id seat.new.table_id seat.old.me.0 seat.new.me.0 }
-        ensures moves { HoldsHeap seat.old.me heap (λ es. HoldsHeap seat.new.me heap (λ left.
-            ComesOut H.kind most batch.old.items batch.new.items es left
-            × Shows H.kind result left)) }
+        ensures { UsesHeap heap seat.old.table_id seat.new.table_id seat.old.me seat.new.me
+            (λ es left. ComesOut H.kind most batch.old.items batch.new.items es left
+            × Shows H.kind result left) }
     {
         let held = seat.slot_mut(&self.table.shared, heap);
         pop_some(held, most, batch);
@@ -63,17 +56,12 @@ impl<K: Known, A: Allocator, H: EntryHeap> Pool<K, A, H> {
         requires seat { MayTry self.now heap seat.old.table_id seat.old.me }
         requires known { AreKnown K.is_known batch.old.items }
         ensures seat { RestsAgain seat.old.table_id seat.new.table_id seat.new.me }
-        ensures pushed { MatchPushed result
-            (PushesAll (books seat.old.me.0) batch.old.items (books seat.new.me.0)
-            × (batch.new.items ≡ []))
-            (SameBooks (books seat.old.me.0) (books seat.new.me.0) × (batch.new ≡ batch.old))
-            (PushesFrom batch.old.items batch.new.items
-            (books seat.old.me.0) (books seat.new.me.0)) }
+        ensures push { IsBatchPush result (books seat.old.me.0) (books seat.new.me.0)
+            batch.old batch.new }
         ensures tried { MatchPushed result
             (TookThere H.kind heap seat.old.me.0.seen seat.new.me.0.last_take)
             (MissedHeap heap seat.old.me.0.seen seat.new.me.0.seen)
             (TookThere H.kind heap seat.old.me.0.seen seat.new.me.0.last_take) }
-        ensures alone { seat.old.me.0.shares ≡ SHARES → MatchPushed result (Unit {0}) ⊥ (Unit {0}) }
     {
         let seen = self.look(seat, heap);
         if seen == OUT || !self.take(seat, heap, seen) {
@@ -98,17 +86,12 @@ impl<K: Known, A: Allocator, H: EntryHeap> Pool<K, A, H> {
         requires seat { IsAtRest self.now seat.old.table_id seat.old.me }
         requires known { AreKnown K.is_known batch.old.items }
         ensures seat { RestsAgain seat.old.table_id seat.new.table_id seat.new.me }
-        ensures pushed { MatchPushed result
-            (PushesAll (books seat.old.me.0) batch.old.items (books seat.new.me.0)
-            × (batch.new.items ≡ []))
-            (SameBooks (books seat.old.me.0) (books seat.new.me.0) × (batch.new ≡ batch.old))
-            (PushesFrom batch.old.items batch.new.items
-            (books seat.old.me.0) (books seat.new.me.0)) }
+        ensures push { IsBatchPush result (books seat.old.me.0) (books seat.new.me.0)
+            batch.old batch.new }
         ensures tried { MatchPushed result
             (TookAtTry H.kind self.now.heaps word seat.old.me.0.seen seat.new.me.0.last_take)
             (Missed self.now.heaps word (2 * self.now.heaps) seat.old.me.0.seen seat.new.me.0.seen)
             (TookAtTry H.kind self.now.heaps word seat.old.me.0.seen seat.new.me.0.last_take) }
-        ensures alone { seat.old.me.0.shares ≡ SHARES → MatchPushed result (Unit {0}) ⊥ (Unit {0}) }
     {
         for attempt in 0..2 * self.heaps {
             let heap = draw_try(self.heaps, word, attempt);
@@ -132,19 +115,13 @@ impl<K: Known, A: Allocator, H: EntryHeap> Pool<K, A, H> {
         requires seat { IsSeatOf self.now seat.old }
         requires known { AreKnown K.is_known batch.old.items }
         ensures seat { IsSeatOf self.now seat.new }
-        ensures pushed { MatchPushed result
-            (PushesAll (account_of seat.old) batch.old.items (account_of seat.new)
-            × (batch.new.items ≡ []))
-            (SameBooks (account_of seat.old) (account_of seat.new) × (batch.new ≡ batch.old))
-            (PushesFrom batch.old.items batch.new.items
-            (account_of seat.old) (account_of seat.new)) }
+        ensures push { IsBatchPush result (account_of seat.old) (account_of seat.new)
+            batch.old batch.new }
         // Each of the 2H tries missed; or one took its heap after others missed.
         ensures tried { MatchPushed result
             (TookAtTry H.kind (heaps_of self.now) word seat.old.seen seat.new.last_take)
             (Missed (heaps_of self.now) word (2 * heaps_of self.now) seat.old.seen seat.new.seen)
             (TookAtTry H.kind (heaps_of self.now) word seat.old.seen seat.new.last_take) }
-        ensures alone { (account_of seat.old).shares ≡ SHARES
-            → MatchPushed result (Unit {0}) ⊥ (Unit {0}) }
     {
         self.push_all_from(&mut seat.seat, word, batch)
     }
@@ -162,15 +139,9 @@ impl<K: Known, A: Allocator, H: EntryHeap> Pool<K, A, H> {
         requires some { seen < EMPTY }
         requires room { (0 < most) × (array_vec_len batch.old + most ≤ MOST_IN_BATCH) }
         ensures seat { RestsAgain seat.old.table_id seat.new.table_id seat.new.me }
-        ensures popped { result ≡ true
-            → PopsSome K.is_known H.kind most batch.old.items batch.new.items
-            (books seat.old.me.0) (books seat.new.me.0)
-            (λ out. TookLeast H.kind heap seen out seat.old.me.0.seen seat.new.me.0.last_take)
-            seat.new.me.0.last_take }
-        ensures busy { result ≡ false → SameBooks (books seat.old.me.0) (books seat.new.me.0)
-            × (seat.new.me.0.seen ≡ []) × (batch.new ≡ batch.old) }
-        ensures alone { seat.old.me.0.shares ≡ SHARES → AllByRecursion
-            (λ p. heap ≡ p.0 → seen ≡ p.1 → result ≡ true) seat.old.me.0.seen }
+        ensures pops { IsBatchPopAt K.is_known H.kind heap seen most
+            (view_of seat.old.table_id seat.old.me) (view_of seat.new.table_id seat.new.me)
+            batch.old batch.new result }
     {
         if !self.take(seat, heap, seen) {
             return false;
@@ -193,21 +164,9 @@ impl<K: Known, A: Allocator, H: EntryHeap> Pool<K, A, H> {
         requires heaps { (i < self.now.heaps) × (j < self.now.heaps) × (i ≢ j) }
         requires room { (0 < most) × (array_vec_len batch.old + most ≤ MOST_IN_BATCH) }
         ensures seat { RestsAgain seat.old.table_id seat.new.table_id seat.new.me }
-        ensures popped { MatchSome result
-            ((pops : PopsSome K.is_known H.kind most batch.old.items batch.new.items
-            (books seat.old.me.0) (books seat.new.me.0)
-            (λ out. TookLesser H.kind i j out seat.old.me.0.seen seat.new.me.0.last_take)
-            seat.new.me.0.last_take)
-            × IsLowest H.kind self.now.heaps (min pops.took.x pops.took.y)
-            pops.out (books seat.old.me.0))
-            (SameBooks (books seat.old.me.0) (books seat.new.me.0) × (batch.new ≡ batch.old))
-            (SameBooks (books seat.old.me.0) (books seat.new.me.0) × (batch.new ≡ batch.old)) }
-        ensures looked { MatchSome result (Unit {0})
-            (LookedAt i EMPTY j EMPTY seat.old.me.0.seen seat.new.me.0.seen)
-            (WasBusy i j seat.old.me.0.seen seat.new.me.0.seen) }
-        ensures alone { seat.old.me.0.shares ≡ SHARES → MatchSome result (Unit {0}) (Unit {0}) ⊥ }
-        ensures nothing { seat.old.me.0.shares ≡ SHARES → self.now.heaps ≡ 2 → MatchSome result
-            (Unit {0}) (NothingLeft (books seat.old.me.0)) (Unit {0}) }
+        ensures pops { IsBatchPop K.is_known H.kind self.now.heaps i j most
+            (view_of seat.old.table_id seat.old.me) (view_of seat.new.table_id seat.new.me)
+            batch.old batch.new result }
     {
         let x = self.look(seat, i);
         let y = self.look(seat, j);
@@ -239,27 +198,10 @@ impl<K: Known, A: Allocator, H: EntryHeap> Pool<K, A, H> {
         requires seat { IsSeatOf self.now seat.old }
         requires room { (0 < most) × (array_vec_len batch.old + most ≤ MOST_IN_BATCH) }
         ensures seat { IsSeatOf self.now seat.new }
-        ensures popped { let i = first_draw (heaps_of self.now) first in
-            let j = second_draw (heaps_of self.now) first second in
-            MatchSome result
-            ((pops : PopsSome K.is_known H.kind most batch.old.items batch.new.items
-            (account_of seat.old) (account_of seat.new)
-            (λ out. TookLesser H.kind i j out seat.old.seen seat.new.last_take)
-            seat.new.last_take)
-            × IsLowest H.kind (heaps_of self.now) (min pops.took.x pops.took.y)
-            pops.out (account_of seat.old))
-            (SameBooks (account_of seat.old) (account_of seat.new) × (batch.new ≡ batch.old))
-            (SameBooks (account_of seat.old) (account_of seat.new) × (batch.new ≡ batch.old)) }
-        // It inspected the first draw, then the second.
-        ensures looked { let i = first_draw (heaps_of self.now) first in
-            let j = second_draw (heaps_of self.now) first second in
-            MatchSome result (Unit {0})
-            (LookedAt i EMPTY j EMPTY seat.old.seen seat.new.seen)
-            (WasBusy i j seat.old.seen seat.new.seen) }
-        ensures alone { (account_of seat.old).shares ≡ SHARES
-            → MatchSome result (Unit {0}) (Unit {0}) ⊥ }
-        ensures nothing { (account_of seat.old).shares ≡ SHARES → heaps_of self.now ≡ 2
-            → MatchSome result (Unit {0}) (NothingLeft (account_of seat.old)) (Unit {0}) }
+        ensures pops { IsBatchPop K.is_known H.kind (heaps_of self.now)
+            (first_draw (heaps_of self.now) first)
+            (second_draw (heaps_of self.now) first second) most
+            seat.old seat.new batch.old batch.new result }
     {
         let i = draw_first(self.heaps, first);
         let j = draw_second(self.heaps, first, second);

@@ -1,13 +1,11 @@
 //! The calls on a shared pool.
-ghost use Rattle.std.specs.Prelude.{◌≡◌, ◌+◌, ◌*◌, ◌<◌, false, [], ◌∷◌, ◌++◌, IfErr, OnOk};
-ghost use Rattle.ea_pool.specs.Kinds.{Least};
-ghost use Rattle.ea_pool.specs.Pools.{SameBooks, Pushes, Pops, Opened, IsLeastLeft, NothingLeft};
+ghost use Rattle.std.specs.Prelude.{◌≡◌, ◌+◌, ◌*◌, ◌<◌, ◌++◌};
+ghost use Rattle.ea_pool.specs.Pools.{Opened};
 ghost use Rattle.ea_pool.specs.Draws.{first_draw, second_draw};
-ghost use Rattle.ea_pool.specs.Replies.{handed_back, is_busy, OnBusy, UnlessBusy, MatchPopped, OnPopped};
+ghost use Rattle.ea_pool.specs.Replies.{IsPop, IsPush, MatchBusy};
 ghost use Rattle.ea_pool.specs.Seats.{account_of, heaps_of, IsSeatOf};
-ghost use Rattle.ea_pool.specs.Tries.{LookedAt, WasBusy, Missed, TookAtTry, TookLesser};
+ghost use Rattle.ea_pool.specs.Tries.{Missed, TookAtTry};
 
-use crate::SHARES;
 use crate::draws::{draw_first, draw_second};
 use crate::heap::entry::Entry;
 use crate::heap::entry_heap::EntryHeap;
@@ -15,7 +13,6 @@ use crate::shared::pool::Pool;
 use crate::shared::reply::{Popped, PushRefused};
 use crate::shared::rules::OneShare;
 use crate::shared::seat::PoolSeat;
-use crate::shared::words::EMPTY;
 use ea_road::Known;
 use std::alloc::Allocator;
 use std::marker::PhantomData;
@@ -27,27 +24,9 @@ impl<K: Known, A: Allocator> Pool<K, A> {
     pub fn pop_as(&self, seat: &mut PoolSeat<K, A>, first: u64, second: u64) -> Popped
         requires seat { IsSeatOf self.now seat.old }
         ensures seat { IsSeatOf self.now seat.new }
-        ensures popped { MatchPopped result
-            (λ entry. Pops (account_of seat.old) entry (account_of seat.new)
-            × K.is_known entry.node entry.key)
-            (SameBooks (account_of seat.old) (account_of seat.new))
-            (SameBooks (account_of seat.old) (account_of seat.new)) }
-        // It inspected the first draw, then the second.
-        ensures looked { let i = first_draw (heaps_of self.now) first in
-            let j = second_draw (heaps_of self.now) first second in
-            MatchPopped result (λ _. Unit {0})
-            (LookedAt i EMPTY j EMPTY seat.old.seen seat.new.seen)
-            (WasBusy i j seat.old.seen seat.new.seen) }
-        // It took the one with the lesser word, and its least entry.
-        ensures lesser { let i = first_draw (heaps_of self.now) first in
-            let j = second_draw (heaps_of self.now) first second in
-            OnPopped result
-            (λ entry. TookLesser Least i j (entry ∷ []) seat.old.seen seat.new.last_take) }
-        ensures alone { (account_of seat.old).shares ≡ SHARES
-            → MatchPopped result (λ _. Unit {0}) (Unit {0}) ⊥ }
-        ensures least { (account_of seat.old).shares ≡ SHARES → heaps_of self.now ≡ 2
-            → MatchPopped result (λ entry. IsLeastLeft entry (account_of seat.old))
-            (NothingLeft (account_of seat.old)) ⊥ }
+        ensures pops { IsPop K.is_known (heaps_of self.now)
+            (first_draw (heaps_of self.now) first)
+            (second_draw (heaps_of self.now) first second) seat.old seat.new result }
     {
         let i = draw_first(self.heaps, first);
         let j = draw_second(self.heaps, first, second);
@@ -68,18 +47,12 @@ impl<K: Known, A: Allocator, H: EntryHeap> Pool<K, A, H> {
         requires seat { IsSeatOf self.now seat.old }
         requires known { K.is_known entry.node entry.key }
         ensures seat { IsSeatOf self.now seat.new }
-        ensures pushed { OnOk result (Pushes (account_of seat.old) entry (account_of seat.new)) }
-        ensures refused { IfErr result (λ refused.
-            (handed_back refused ≡ entry) × SameBooks (account_of seat.old) (account_of seat.new)) }
-        // Each of the 2H tries, in turn, found its heap out or failed to take it.
-        ensures missed { OnBusy result
-            (Missed (heaps_of self.now) word (2 * heaps_of self.now) seat.old.seen seat.new.seen) }
-        // After others missed, one of the tries took its heap; the entry was pushed there, or memory was
-        // refused.
-        ensures took { UnlessBusy result
+        ensures push { IsPush result (account_of seat.old) (account_of seat.new) entry }
+        // Each of the 2H tries, in turn, found its heap out or failed to take it. Or after others missed, one
+        // of the tries took its heap; the entry was pushed there, or memory was refused.
+        ensures tried { MatchBusy result
+            (Missed (heaps_of self.now) word (2 * heaps_of self.now) seat.old.seen seat.new.seen)
             (TookAtTry H.kind (heaps_of self.now) word seat.old.seen seat.new.last_take) }
-        ensures alone { (account_of seat.old).shares ≡ SHARES
-            → IfErr result (λ refused. is_busy refused ≡ false) }
     {
         self.push_from(&mut seat.seat, word, entry)
     }

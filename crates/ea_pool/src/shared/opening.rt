@@ -1,7 +1,6 @@
 //! Opening and closing a pool.
-ghost use Rattle.std.specs.Prelude.{◌≡◌, ◌+◌, ◌≤◌, [], ◌++◌, IfOk, replicate};
-ghost use Rattle.ea_pool.specs.Entries.{SameEntries, AreKnown};
-ghost use Rattle.ea_pool.specs.Pools.{Opened, IsRunEnd};
+ghost use Rattle.std.specs.Prelude.{◌≡◌, ◌+◌, ◌≤◌, [], IfOk, replicate};
+ghost use Rattle.ea_pool.specs.Pools.{IsClosed, IsNewPool};
 ghost use Rattle.ea_pool.specs.Seats.{account_of, heaps_of, IsSeatOf};
 
 use crate::heap::entry_heap::{EntryHeap, OpenHeap, Slot};
@@ -51,9 +50,7 @@ impl<K: Known, A: Allocator + Copy> Pool<K, A> {
     /// memory for `close`, and none for entries. Fails only if memory is refused.
     pub fn open(alloc: A, heaps: usize) -> Result<(Pool<K, A>, PoolSeat<K, A>), OutOfMemory>
         requires { (LEAST_HEAPS ≤ heaps) × (heaps ≤ MOST_IN_POOL) }
-        ensures pool { IfOk result (λ made. heaps_of made.0 ≡ heaps) }
-        ensures seat { IfOk result (λ made. IsSeatOf made.0 made.1
-            × Opened SHARES (account_of made.1)) }
+        ensures { IfOk result (λ made. IsNewPool heaps made.0 made.1) }
     {
         Pool::open_with(alloc, heaps, 0)
     }
@@ -68,9 +65,7 @@ impl<K: Known, A: Allocator + Copy, H: OpenHeap<A>> Pool<K, A, H> {
         width: u64,
     ) -> Result<(Pool<K, A, H>, PoolSeat<K, A, H>), OutOfMemory>
         requires { (LEAST_HEAPS ≤ heaps) × (heaps ≤ MOST_IN_POOL) }
-        ensures pool { IfOk result (λ made. heaps_of made.0 ≡ heaps) }
-        ensures seat { IfOk result (λ made. IsSeatOf made.0 made.1
-            × Opened SHARES (account_of made.1)) }
+        ensures { IfOk result (λ made. IsNewPool heaps made.0 made.1) }
     {
         let words = Vec::from_elem(alloc, EMPTY, WORDS_APART * (heaps + 1))?;
         let slots = empty_slots(alloc, heaps, width)?;
@@ -99,9 +94,7 @@ impl<K: Known, A: Allocator, H: EntryHeap> Pool<K, A, H> {
     pub fn close(self, seat: PoolSeat<K, A, H>) -> ClosedPool<A, H>
         requires seat { IsSeatOf self seat }
         requires all { (account_of seat).shares ≡ SHARES }
-        ensures left { SameEntries (account_of seat).pushed ((account_of seat).popped ++ result) }
-        ensures known { AreKnown K.is_known result }
-        ensures run { IsRunEnd K.is_known H.kind (heaps_of self) result (account_of seat) }
+        ensures { IsClosed K.is_known H.kind (heaps_of self) result (account_of seat) }
     {
         let Pool {
             table,

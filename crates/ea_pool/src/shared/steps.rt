@@ -1,13 +1,11 @@
 //! The steps of a pool: on a word, and on a heap that is held.
-ghost use Rattle.std.specs.Prelude.{◌≡◌, ◌≢◌, ◌<◌, ◌≤◌, true, false, [], ◌∷◌, ◌++◌, MatchResult, MatchOption};
-ghost use Rattle.std.specs.List.{AllByRecursion};
-ghost use Rattle.ea_pool.specs.Entries.{SameEntries, HasMore, AreKnown};
+ghost use Rattle.std.specs.Prelude.{◌≡◌, ◌≢◌, ◌<◌, [], ◌∷◌, MatchOption};
+ghost use Rattle.ea_pool.specs.Entries.{AreKnown, GoesInOrBack, HasMore};
 ghost use Rattle.ea_pool.specs.Kinds.{Shows, GivesOne};
-ghost use Rattle.ea_pool.specs.Plays.{Surveys, Took, PutsPushed, PutsPopped};
-ghost use Rattle.ea_pool.specs.States.{saw, forgot, gave};
-ghost use Rattle.ea_pool.specs.Pools.{Rests, HoldsHeap, IsHeld, AreInTime, KeepsMemory, MayTry};
+ghost use Rattle.ea_pool.specs.Plays.{PutsPopped, PutsPushed, SeesWord, TakesHeap};
+ghost use Rattle.ea_pool.specs.States.{gave};
+ghost use Rattle.ea_pool.specs.Pools.{AreInTime, MayGive, MayTry, MayUse, Rests, UsesHeap};
 
-use crate::SHARES;
 use crate::heap::entry::Entry;
 use crate::heap::entry_heap::EntryHeap;
 use crate::shared::pool::Pool;
@@ -22,10 +20,8 @@ impl<K: Known, A: Allocator, H: EntryHeap> Pool<K, A, H> {
     pub(crate) fn look(&self, seat: &mut Seat<H>, heap: usize) -> u64
         requires seat { MayTry self.now heap seat.old.table_id seat.old.me }
         ensures table { seat.new.table_id ≡ seat.old.table_id }
-        ensures saw { seat.new.me ≡ (saw seat.old.me.0 heap result, seat.old.me.1) }
-        ensures low { (result ≤ OUT) × (seat.old.me.0.shares ≤ SHARES) }
-        ensures alone { seat.old.me.0.shares ≡ SHARES
-            → Surveys K.is_known H.kind self.now.heaps seat.new.me.0 }
+        ensures sees { SeesWord K.is_known H.kind self.now.heaps heap result
+            seat.old.me seat.new.me }
     {
         self.table
             .shared
@@ -37,10 +33,7 @@ impl<K: Known, A: Allocator, H: EntryHeap> Pool<K, A, H> {
         requires table { (seat.old.table_id ≡ self.now.table) × (heap < self.now.heaps) }
         requires rests { Rests seat.old.me × (seen ≢ OUT) }
         ensures table { seat.new.table_id ≡ seat.old.table_id }
-        ensures taken { result ≡ true → Took K.is_known H.kind seat.old.me heap seen seat.new.me }
-        ensures missed { result ≡ false → seat.new.me ≡ (forgot seat.old.me.0, seat.old.me.1) }
-        ensures alone { seat.old.me.0.shares ≡ SHARES
-            → AllByRecursion (λ p. heap ≡ p.0 → seen ≡ p.1 → result ≡ true) seat.old.me.0.seen }
+        ensures takes { TakesHeap K.is_known H.kind heap seen seat.old.me seat.new.me result }
     {
         self.table
             .shared
@@ -55,13 +48,10 @@ impl<K: Known, A: Allocator, H: EntryHeap> Pool<K, A, H> {
         heap: usize,
         entry: Entry,
     ) -> (Result<(), Entry>, u64)
-        requires table { seat.old.table_id ≡ self.now.table }
-        requires held { HoldsHeap seat.old.me heap (λ es. AreInTime (entry ∷ es)) }
-        ensures seat { KeepsMemory seat.old.table_id seat.new.table_id seat.old.me.0 seat.new.me.0 }
-        ensures moves { HoldsHeap seat.old.me heap (λ es. HoldsHeap seat.new.me heap (λ left.
-            MatchResult result.0 (λ _. SameEntries left (entry ∷ es))
-            (λ back. (back ≡ entry) × (left ≡ es))
-            × Shows H.kind result.1 left)) }
+        requires may { MayUse self.now heap seat.old.table_id seat.old.me
+            (λ es. AreInTime (entry ∷ es)) }
+        ensures { UsesHeap heap seat.old.table_id seat.new.table_id seat.old.me seat.new.me
+            (λ es left. GoesInOrBack result.0 entry es left × Shows H.kind result.1 left) }
     {
         let held = seat.slot_mut(&self.table.shared, heap);
         let answer = held.push(entry);
@@ -70,13 +60,11 @@ impl<K: Known, A: Allocator, H: EntryHeap> Pool<K, A, H> {
 
     // Pops from the heap that is held, and returns its new word.
     pub(crate) fn pop_in(&self, seat: &mut Seat<H>, heap: usize) -> (Option<Entry>, u64)
-        requires table { seat.old.table_id ≡ self.now.table }
-        requires held { HoldsHeap seat.old.me heap (λ es. AreInTime es) }
-        ensures seat { KeepsMemory seat.old.table_id seat.new.table_id seat.old.me.0 seat.new.me.0 }
-        ensures moves { HoldsHeap seat.old.me heap (λ es. HoldsHeap seat.new.me heap (λ left.
-            MatchOption result.0 ((es ≡ []) × (left ≡ []))
+        requires may { MayUse self.now heap seat.old.table_id seat.old.me AreInTime }
+        ensures { UsesHeap heap seat.old.table_id seat.new.table_id seat.old.me seat.new.me
+            (λ es left. MatchOption result.0 ((es ≡ []) × (left ≡ []))
             (λ entry. GivesOne H.kind entry es left)
-            × Shows H.kind result.1 left)) }
+            × Shows H.kind result.1 left) }
     {
         let held = seat.slot_mut(&self.table.shared, heap);
         let answer = held.pop();
@@ -85,10 +73,8 @@ impl<K: Known, A: Allocator, H: EntryHeap> Pool<K, A, H> {
 
     // Returns the heap, with more entries than it had.
     pub(crate) fn give_pushed(&self, seat: &mut Seat<H>, heap: usize, word: u64)
-        requires table { (seat.old.table_id ≡ self.now.table) × (heap < self.now.heaps) }
-        requires share { 0 < seat.old.me.0.shares }
-        requires held { HoldsHeap seat.old.me heap (λ left. IsHeld seat.old.me.0 heap (λ es.
-            Shows H.kind word left × HasMore es left (AreKnown K.is_known))) }
+        requires may { MayGive self.now heap seat.old.table_id seat.old.me (λ left es.
+            Shows H.kind word left × HasMore es left (AreKnown K.is_known)) }
         ensures table { seat.new.table_id ≡ seat.old.table_id }
         ensures pushed { PutsPushed seat.old.me seat.new.me }
     {
@@ -99,10 +85,8 @@ impl<K: Known, A: Allocator, H: EntryHeap> Pool<K, A, H> {
 
     // Returns the heap, with fewer entries than it had.
     pub(crate) fn give_popped(&self, seat: &mut Seat<H>, heap: usize, word: u64)
-        requires table { (seat.old.table_id ≡ self.now.table) × (heap < self.now.heaps) }
-        requires share { 0 < seat.old.me.0.shares }
-        requires held { HoldsHeap seat.old.me heap (λ left. IsHeld seat.old.me.0 heap (λ es.
-            Shows H.kind word left × HasMore left es (λ _. Unit {0}))) }
+        requires may { MayGive self.now heap seat.old.table_id seat.old.me (λ left es.
+            Shows H.kind word left × HasMore left es (λ _. Unit {0})) }
         ensures table { seat.new.table_id ≡ seat.old.table_id }
         ensures popped { PutsPopped K.is_known seat.old.me seat.new.me }
     {
@@ -113,10 +97,8 @@ impl<K: Known, A: Allocator, H: EntryHeap> Pool<K, A, H> {
 
     // Returns the heap unchanged.
     pub(crate) fn give_back(&self, seat: &mut Seat<H>, heap: usize, word: u64)
-        requires table { (seat.old.table_id ≡ self.now.table) × (heap < self.now.heaps) }
-        requires share { 0 < seat.old.me.0.shares }
-        requires held { HoldsHeap seat.old.me heap (λ left. IsHeld seat.old.me.0 heap (λ es.
-            (left ≡ es) × Shows H.kind word left)) }
+        requires may { MayGive self.now heap seat.old.table_id seat.old.me (λ left es.
+            (left ≡ es) × Shows H.kind word left) }
         ensures table { seat.new.table_id ≡ seat.old.table_id }
         ensures gave { seat.new.me ≡ (gave seat.old.me.0, []) }
     {

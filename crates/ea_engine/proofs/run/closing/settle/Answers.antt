@@ -16,14 +16,14 @@ over : (g : _) (c : After-close-closed g) → AreJoinedAndClosed g.K.Known.is_kn
     c.requires.joined.account.gathered.back c.requires.joined.account.gathered.refused
 over g c = record {
   labels = subst (λ n. IsLawful g.K.Known.is_known n c.close-table.result.items (c.args.seats.label_seat.history ∷ [])) c.requires.posed.nodes_are c.close-table.ensures.lawful;
-  entries = c.close-closed.ensures.left;
+  entries = c.close-closed.ensures.left_is;
   closed = c.requires.joined.account.gathered.closed;
 }
 
 -- what was pushed was popped or is left
 left_count : (g : _) (c : After-close-closed g) → length c.args.seats.pool_seat.account.pushed ≡ length c.args.seats.pool_seat.account.popped + length c.close-closed.result
 left_count g c =
-    omega (arith, same_length c.args.seats.pool_seat.account.pushed (c.args.seats.pool_seat.account.popped ++ c.close-closed.result) c.close-closed.ensures.left, length-append c.args.seats.pool_seat.account.popped c.close-closed.result)
+    omega (arith, same_length c.args.seats.pool_seat.account.pushed (c.args.seats.pool_seat.account.popped ++ c.close-closed.result) c.close-closed.ensures.left_is, length-append c.args.seats.pool_seat.account.popped c.close-closed.result)
 
 in_range : (g : _) (c : After-close-closed g) (e : Entry) → g.K.Known.is_known e.node e.key → (0 < e.node) × (e.node ≤ c.args.labels.nodes)
 in_range g c e known =

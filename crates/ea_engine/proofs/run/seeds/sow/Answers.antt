@@ -16,21 +16,21 @@ returns-in-Ok g c = record {
   gathered = λ before after fell h. record {
     back = h.back;
     refused = h.refused;
-    closed = closed_pushed _ before after _ _ c.args.source.node fell.from c.args.source.departure h.back h.refused fell.after_is c.in-Ok.ensures.pushed h.closed;
+    closed = closed_pushed _ before after _ _ c.args.source.node fell.from c.args.source.departure h.back h.refused fell.after_is c.in-Ok.ensures.push.pushed h.closed;
     waits = h.waits;
   };
   offers = λ before after sown. sown;
   step = record {
-    pushed_is = omega (arith, ap length c.in-Ok.ensures.pushed.1);
-    popped_is = c.in-Ok.ensures.pushed.2;
-    shares_are = c.in-Ok.ensures.pushed.0;
+    pushed_is = omega (arith, ap length c.in-Ok.ensures.push.pushed.1);
+    popped_is = c.in-Ok.ensures.push.pushed.2;
+    shares_are = c.in-Ok.ensures.push.pushed.0;
   };
   opens = OpensUpTo-none _;
 }
 
 pub returns-in-Err : goal.returns-in-Err
 returns-in-Err g c =
-    let same = c.in-Err.ensures.refused.1 in
+    let same = c.in-Err.ensures.push.refused.1 in
     record {
       of_pool = c.in-Err.ensures.seat;
       gathered = λ before after fell h.

@@ -19,9 +19,9 @@ pop_some_as-popped-requires-clause-room g c κs outlives =
 
 pub returns : goal.returns
 returns g c =
-    let pops = c.pop_some_as-popped.ensures in
+    let pops = c.pop_some_as-popped.ensures.pops in
     record {
-      of_pool = pops.seat;
+      of_pool = c.pop_some_as-popped.ensures.seat;
       popped = took_by _ _ _ _ _ _ _ _ _ (with_items c.pop_some_as-popped.new.batch c.reverse.new.self) _ _ _ _ c.requires.may.none pops.popped
           (turned_back c.pop_some_as-popped.new.batch.items c.reverse.new.self (c.reverse.ensures.after ∙ ap reverse c.deref_mut.ensures.value));
       looked = looked_by _ _ _ _ _ _ _ _ _ c.next_u64-first.ensures c.next_u64-second.ensures pops.looked;

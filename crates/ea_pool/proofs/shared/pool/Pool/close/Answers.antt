@@ -43,7 +43,7 @@ returns g c =
     let all : c.loop-k.row.items ≡ items = i.2 ∙ (ap (take c.loop-k.k) i.0 ∙ take_all c.loop-k.k items (omega (arith, long.0, c.close_with-closed.ensures.counts.1, c.self.invariant.1, c.loop-k-test.false))) in
     let key = c.self.inside.table.shared.key in
     record {
-      left = λ f. omega (
+      left_is = λ f. omega (
         arith,
         closes known g.H.EntryHeap.kind key c.seat.inside.seat.id me words items whole rests.1 ended f,
         ap (λ (a : Account). total f a.pushed) same,
@@ -52,7 +52,7 @@ returns g c =
         total_gathered f c.loop-k.row.items,
         ap (total (total f)) all,
       );
-      known = λ e some. left_known known g.H.EntryHeap.kind key c.seat.inside.seat.id me words items whole rests.1 ended e
+      left_known = λ e some. left_known known g.H.EntryHeap.kind key c.seat.inside.seat.id me words items whole rests.1 ended e
           (omega (arith, some, total_gathered (only e) c.loop-k.row.items, ap (total (times e)) all));
       run =
           let ends = run_end known g.H.EntryHeap.kind key c.seat.inside.seat.id me words items whole rests.1 ended in

@@ -7,6 +7,6 @@ use Rattle.ea_pool.proofs.shared.pool.Pool.pop_some_in.Goals as goal
 
 pub word-requires : goal.word-requires
 word-requires g c =
-    let held = c.requires.held in
+    let held = c.requires.may.held in
     let same = ap (λ (l : List (ℕ × List Entry)). value_of l) (sym held.1 ∙ c.slot_mut-held.ensures.value) in
     in_time_left g.H.EntryHeap.kind c.pop_some.ensures.0 c.slot_mut-held.result.now c.pop_some.new.heap c.pop_some.ensures.2.taken (subst AreInTime same held.2)

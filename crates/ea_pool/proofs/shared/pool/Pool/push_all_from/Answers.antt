@@ -12,13 +12,13 @@ loop-attempt-preserved g c =
     let i = c.loop-attempt.invariant in
     let e = rw c.in-Err-Busy.field-0-is at c.in-Err-Busy.ensures in
     let before = i.2 in
-    let now = e.pushed.0 in
-    let heap = c.draw_try-heap.ensures.draw ∙ ap (λ p. try_draw p.heaps c.args.word c.loop-attempt.attempt) c.self.view_is in (
+    let now = e.push.pushed.0 in
+    let heap = c.draw_try-heap.ensures.is ∙ ap (λ p. try_draw p.heaps c.args.word c.loop-attempt.attempt) c.self.view_is in (
       e.seat.same_table ∙ i.0,
       e.seat.rests,
       (now.0 ∙ before.0, now.1 ∙ before.1, now.2 ∙ before.2),
-      e.pushed.1 ∙ i.3,
-      (λ whole. absurd (e.alone (before.0 ∙ whole))),
+      e.push.pushed.1 ∙ i.3,
+      (λ whole. absurd (e.push.alone (before.0 ∙ whole))),
       missed_more _ _ _ _ _ _ i.5 (subst (λ h. MissedHeap h c.loop-attempt.seat.me.0.seen c.push_all_at.new.seat.me.0.seen) heap e.tried),
     )
 

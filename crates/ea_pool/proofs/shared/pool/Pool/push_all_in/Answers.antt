@@ -7,7 +7,7 @@ use Rattle.ea_pool.proofs.shared.pool.Pool.push_all_in.Goals as goal
 
 pub word-requires : goal.word-requires
 word-requires g c =
-    let held = c.requires.held in
+    let held = c.requires.may.held in
     let same = ap (λ (l : List (ℕ × List Entry)). value_of l) (sym held.1 ∙ c.slot_mut-held.ensures.value) in
-    in_time_after c.args.batch.now.items c.push_all-all.new.batch.items c.slot_mut-held.result.now c.push_all-all.new.heap c.push_all-all.ensures.went
+    in_time_after c.args.batch.now.items c.push_all-all.new.batch.items c.slot_mut-held.result.now c.push_all-all.new.heap c.push_all-all.ensures.goes
     (subst (λ (es : List Entry). AreInTime (c.args.batch.now.items ++ es)) same held.2)

@@ -13,15 +13,15 @@ loop-attempt-preserved g c =
     let e = rw c.in-Err-Busy.field-0-is at c.in-Err-Busy.ensures in
     let before = i.2 in
     let now = e.push.refused.1 in
-    let heap = c.draw_try-heap.ensures.draw ∙ ap (λ p. try_draw p.heaps c.args.word c.loop-attempt.attempt) c.self.view_is in (
+    let heap = c.draw_try-heap.ensures.is ∙ ap (λ p. try_draw p.heaps c.args.word c.loop-attempt.attempt) c.self.view_is in (
       e.seat.same_table ∙ i.0,
       e.seat.rests,
       (now.0 ∙ before.0, now.1 ∙ before.1, now.2 ∙ before.2),
       (λ whole. let no : true ≡ false = e.push.alone (before.0 ∙ whole) in cc),
-      missed_more _ _ _ _ _ _ i.4 (subst (λ h. MissedHeap h c.loop-attempt.seat.me.0.seen c.push_at.new.seat.me.0.seen) heap e.missed),
+      missed_more _ _ _ _ _ _ i.4 (subst (λ h. MissedHeap h c.loop-attempt.seat.me.0.seen c.push_at.new.seat.me.0.seen) heap e.tried),
     )
 
-pub returns-clause-missed : goal.returns-clause-missed
-returns-clause-missed g c =
+pub returns-clause-tried : goal.returns-clause-tried
+returns-clause-tried g c =
     let all : c.loop-attempt.attempt ≡ 2 * c.args.self.now.heaps = omega (arith, c.loop-attempt-test.false, c.loop-attempt.auto.attempt-end, ap (λ p. p.heaps) c.self.view_is) in
     subst (λ n. Missed c.args.self.now.heaps c.args.word n c.args.seat.now.me.0.seen c.loop-attempt.seat.me.0.seen) all c.loop-attempt.invariant.4
