@@ -1,7 +1,7 @@
 -- A run of one thread: its labels, its heaps and its record.
 use Rattle.std.specs.Prelude.{◌≡◌, ◌≢◌, ℕ, ◌+◌, ◌-◌, ◌%◌, ◌<◌, ◌≤◌, ◌⊎◌, List, [], ◌∷◌, ◌++◌, length, map, Ok, slice_set, Contains}
 use Rattle.std.specs.List.{IsAmong, AllByRecursion}
-use Rattle.ea_base.specs.declared.limits.TheConstants.{HORIZON}
+use Rattle.ea_base.specs.declared.limits.TheConstants.{HORIZON, LEAST_HEAPS}
 use Rattle.ea_road.specs.declared.TheConstants.{NONE}
 use Rattle.ea_road.specs.declared.arc.Arc.{Arc}
 use Rattle.ea_road.specs.declared.source.Source.{Source}
@@ -9,6 +9,7 @@ use Rattle.ea_road.specs.Roads.{Roads, IsArc, IsNode}
 use Rattle.ea_road.specs.Arrivals.{Reaches}
 use Rattle.ea_road.specs.Labels.{label_of}
 use Rattle.ea_pool.specs.declared.heap.entry.Entry.{Entry}
+use Rattle.ea_pool.specs.declared.shared.words.TheConstants.{MOST_IN_POOL}
 use Rattle.ea_pool.specs.Draws.{first_draw, second_draw}
 use Rattle.ea_machine.specs.Totals.{total}
 use Rattle.ea_pool.specs.Entries.{times, only}
@@ -33,6 +34,12 @@ pub record Finds (first second : ℕ) (entry : Entry) (old new : List (List Entr
   pub near : step < length old
   pub none_before : (k : ℕ) → k < step → BothEmpty old (first % length old + k) second
   pub taken : TakesFrom (lesser_heap old (first_draw (length old) (first % length old + step)) (second_draw (length old) (first % length old + step) second)) entry old new
+
+-- The heaps of a run: this many, within the limits of a pool.
+pub record HasHeaps (heaps : ℕ) (row : List (List Entry)) : Type 0 where
+  pub are : length row ≡ heaps
+  pub two : LEAST_HEAPS ≤ heaps
+  pub few : heaps ≤ MOST_IN_POOL
 
 -- The state of a run.
 pub record State : Type 0 where

@@ -5,7 +5,7 @@ ghost use Rattle.ea_pool.specs.declared.shared.words.TheConstants.{MOST_IN_POOL}
 ghost use Rattle.ea_road.specs.declared.TheConstants.{NONE};
 ghost use Rattle.ea_machine.specs.Totals.{total};
 ghost use Rattle.ea_rank.specs.Courses.{LowersBy};
-ghost use Rattle.ea_rank.specs.Runs.{Finds, PopsFound};
+ghost use Rattle.ea_rank.specs.Runs.{Finds, HasHeaps, PopsFound};
 ghost use Rattle.ea_rank.specs.States.{state_of};
 
 use crate::event::Event;
@@ -17,8 +17,7 @@ use std::alloc::Global;
 /// Pops an entry by two words. If the two heaps are empty, tries the words that follow the first one's
 /// remainder. None if all heaps are empty.
 fn find_entry(solo: &mut Solo<Global>, heaps: usize, first: u64, second: u64) -> Option<Entry>
-    requires heaps { length solo.old ≡ heaps }
-    requires range { (LEAST_HEAPS ≤ heaps) × (heaps ≤ MOST_IN_POOL) }
+    requires { HasHeaps heaps solo.old }
     ensures { MatchOption result ((total length solo.old ≡ 0) × (solo.new ≡ solo.old))
         (λ entry. Finds first second entry solo.old solo.new) }
 {
@@ -80,8 +79,7 @@ impl Run {
         first: u64,
         second: u64,
     ) -> Result<Option<Entry>, OutOfMemory>
-        requires heaps { length self.old.heaps ≡ heaps }
-        requires range { (LEAST_HEAPS ≤ heaps) × (heaps ≤ MOST_IN_POOL) }
+        requires { HasHeaps heaps self.old.heaps }
         ensures { IfOk result (λ found. MatchOption found
             ((total length self.old.heaps ≡ 0) × (state_of self.new ≡ state_of self.old))
             (λ entry. PopsFound first second entry (state_of self.old) (state_of self.new))) }

@@ -1,17 +1,11 @@
 //! A recorded run of one thread.
-ghost use Rattle.std.specs.Prelude.{◌≡◌, ◌+◌, ◌<◌, ◌≤◌, [], None, length, IfOk, ℕ};
-ghost use Rattle.ea_base.specs.declared.limits.TheConstants.{HORIZON, LEAST_HEAPS};
+ghost use Rattle.std.specs.Prelude.{◌≡◌, ◌≤◌, [], None, IfOk};
+ghost use Rattle.ea_base.specs.declared.limits.TheConstants.{LEAST_HEAPS};
 ghost use Rattle.ea_pool.specs.declared.shared.words.TheConstants.{MOST_IN_POOL};
 ghost use Rattle.ea_travel_times.specs.Answers.{IsFifoFunction};
-ghost use Rattle.ea_road.specs.Labels.{label_of};
 ghost use Rattle.ea_road.specs.Queries.{IsProblem};
-ghost use Rattle.ea_road.specs.Roads.{leaving, IsNode};
-ghost use Rattle.ea_rank.specs.Ranks.{popped_keys, queue_after};
-ghost use Rattle.ea_rank.specs.Records.{ContainArrivals, HasRanks};
-ghost use Rattle.ea_rank.specs.Courses.{IsRunBy, Scans, Sows};
-ghost use Rattle.ea_rank.specs.Runs.{IsOnCourse, weighs};
+ghost use Rattle.ea_rank.specs.Courses.{IsRecordOfRun, MayGoOn, MayScanNode, ScansNode, SowsSources};
 ghost use Rattle.ea_rank.specs.States.{state_of};
-ghost use Rattle.ea_rank.specs.Tallies.{added};
 
 use crate::event::Record;
 use crate::run::Run;
@@ -34,21 +28,11 @@ fn scan<T: TravelTimes, R: Rng>(
     run: &mut Run,
 ) -> Result<(), OutOfMemory>
     requires problem { IsProblem network.now (T.classes times.now) query.now }
-    requires node { IsNode network.now.nodes node }
-    requires departure { departure ≤ HORIZON }
-    requires label { label_of run.old.labels.items node ≡ departure }
-    requires heaps { 2 ≤ length run.old.heaps }
-    requires underway { IsOnCourse network.now (T.answers times.now) query.now.sources
-        query.now.sources (leaving network.now node) (state_of run.old) }
-    ensures underway { IfOk result (λ _.
-        IsOnCourse network.now (T.answers times.now) query.now.sources
-        query.now.sources [] (state_of run.new)) }
-    ensures heaps { IfOk result (λ _. length run.new.heaps ≡ length run.old.heaps) }
-    ensures less { IfOk result (λ _. added run.new.labels.items + weighs (λ entry. 1) run.new.heaps
-        ≤ added run.old.labels.items + weighs (λ entry. 1) run.old.heaps) }
-    ensures course { IfOk result (λ _.
-        Scans network.now (T.answers times.now) departure (leaving network.now node)
-        (R.stream rng.old) (state_of run.old) (R.stream rng.new) (state_of run.new)) }
+    requires may { MayScanNode network.now (T.answers times.now) query.now.sources
+        node departure (state_of run.old) }
+    ensures { IfOk result (λ _. ScansNode network.now (T.answers times.now) query.now.sources
+        node departure (R.stream rng.old) (state_of run.old)
+        (R.stream rng.new) (state_of run.new)) }
 {
     let arcs = network.leaving(node).arcs;
     for place in 0..arcs.len() {
@@ -69,15 +53,10 @@ fn sow<T: TravelTimes>(
     run: &mut Run,
 ) -> Result<(), OutOfMemory>
     requires problem { IsProblem network.now (T.classes times.now) query.now }
-    requires heaps { 2 ≤ length run.old.heaps }
-    requires underway { IsOnCourse network.now (T.answers times.now) query.now.sources
+    requires may { MayGoOn network.now (T.answers times.now) query.now.sources
         [] [] (state_of run.old) }
-    ensures underway { IfOk result (λ _.
-        IsOnCourse network.now (T.answers times.now) query.now.sources
-        query.now.sources [] (state_of run.new)) }
-    ensures heaps { IfOk result (λ _. length run.new.heaps ≡ length run.old.heaps) }
-    ensures course { IfOk result (λ _. (pushes : ℕ)
-        × Sows query.now.sources (state_of run.old) pushes (state_of run.new)) }
+    ensures { IfOk result (λ _. SowsSources network.now (T.answers times.now)
+        query.now.sources (state_of run.old) (state_of run.new)) }
 {
     network.keeps_limits();
     let mut word = 0;
@@ -104,14 +83,8 @@ pub fn record_run<T: TravelTimes, R: Rng + Drop>(
     requires heaps { (LEAST_HEAPS ≤ heaps) × (heaps ≤ MOST_IN_POOL) }
     requires problem { IsProblem network.now (T.classes times.now) query.now }
     requires asks_all { query.now.target ≡ None }
-    // Each popped key was in the queue; with two heaps, no smaller one was.
-    ensures ranks { IfOk result (λ recorded. HasRanks heaps recorded.events.items) }
-    ensures empty { IfOk result (λ recorded. queue_after [] recorded.events.items ≡ []) }
-    ensures least { IfOk result (λ recorded. ContainArrivals network.now (T.answers times.now)
-        query.now.sources (popped_keys recorded.events.items)) }
-    // The course of the turns by the generator's words determines the record.
-    ensures course { IfOk result (λ recorded.
-        IsRunBy network.now (T.answers times.now) heaps (R.stream rng)
+    ensures { IfOk result (λ recorded.
+        IsRecordOfRun network.now (T.answers times.now) heaps (R.stream rng)
         query.now.sources recorded.events.items) }
 {
     let mut run = Run::new(alloc, network.nodes(), heaps)?;
@@ -147,12 +120,7 @@ pub fn record_run_by<F: ArrivalFunction + Drop, R: Rng + Drop>(
     requires fifo { IsFifoFunction (F.may closure) (F.answers closure) classes }
     requires problem { IsProblem network.now classes query.now }
     requires asks_all { query.now.target ≡ None }
-    ensures ranks { IfOk result (λ recorded. HasRanks heaps recorded.events.items) }
-    ensures empty { IfOk result (λ recorded. queue_after [] recorded.events.items ≡ []) }
-    ensures least { IfOk result (λ recorded. ContainArrivals network.now
-        (λ class weight departure arrival. ∥ F.answers closure class weight departure arrival ∥₁)
-        query.now.sources (popped_keys recorded.events.items)) }
-    ensures course { IfOk result (λ recorded. IsRunBy network.now
+    ensures { IfOk result (λ recorded. IsRecordOfRun network.now
         (λ class weight departure arrival. ∥ F.answers closure class weight departure arrival ∥₁)
         heaps (R.stream rng) query.now.sources recorded.events.items) }
 {

@@ -27,12 +27,15 @@ loop-index-init c =
       },
     )
 
-pub raise-requires-clause-place : goal.raise-requires-clause-place
-raise-requires-clause-place c =
-    let st = c.loop-index.invariant.2 in
-    let inside : c.loop-index.index < length c.args.recorded.now.events.items = omega (arith, c.loop-index-test.true, c.deref-event-items.ensures.len) in
-    let near = place_near c.args.recorded.now.events.items c.loop-index.invariant.1 c.in_ok-places.places.of_events.items c.loop-index.index c.index-place.result.now st.places inside c.index-place.ensures in
-    omega (arith, near, st.tracks.places)
+pub raise-requires : goal.raise-requires
+raise-requires c = record {
+  inside =
+      let st = c.loop-index.invariant.2 in
+      let inside : c.loop-index.index < length c.args.recorded.now.events.items = omega (arith, c.loop-index-test.true, c.deref-event-items.ensures.len) in
+      let near = place_near c.args.recorded.now.events.items c.loop-index.invariant.1 c.in_ok-places.places.of_events.items c.loop-index.index c.index-place.result.now st.places inside c.index-place.ensures in
+      omega (arith, near, st.tracks.places);
+  room = omega (arith, c.loop-index.invariant.2.few, c.loop-index-test.true, c.deref-event-items.type_inv.0);
+}
 
 pub at-requires : goal.at-requires
 at-requires c =
@@ -101,28 +104,25 @@ loop-index-preserved c =
           ))
     ]
 
-pub before-requires-clause-place : goal.before-requires-clause-place
-before-requires-clause-place c =
-    let st = c.loop-index.invariant.2 in
-    let inside : c.loop-index.index < length c.args.recorded.now.events.items = omega (arith, c.loop-index-test.true, c.deref-event-items.ensures.len) in
-    let near = place_near c.args.recorded.now.events.items c.loop-index.invariant.1 c.in_ok-places.places.of_events.items c.loop-index.index c.index-place.result.now st.places inside c.index-place.ensures in
-    omega (arith, near, st.tracks.places)
+pub before-requires : goal.before-requires
+before-requires c = record {
+  inside =
+      let st = c.loop-index.invariant.2 in
+      let inside : c.loop-index.index < length c.args.recorded.now.events.items = omega (arith, c.loop-index-test.true, c.deref-event-items.ensures.len) in
+      let near = place_near c.args.recorded.now.events.items c.loop-index.invariant.1 c.in_ok-places.places.of_events.items c.loop-index.index c.index-place.result.now st.places inside c.index-place.ensures in
+      omega (arith, near, st.tracks.places);
+  room = omega (arith, c.loop-index.invariant.2.few, c.loop-index-test.true, c.deref-event-items.type_inv.0);
+}
 
-pub lower-requires-clause-place : goal.lower-requires-clause-place
-lower-requires-clause-place c =
-    let st = c.loop-index.invariant.2 in
-    let inside : c.loop-index.index < length c.args.recorded.now.events.items = omega (arith, c.loop-index-test.true, c.deref-event-items.ensures.len) in
-    let near = place_near c.args.recorded.now.events.items c.loop-index.invariant.1 c.in_ok-places.places.of_events.items c.loop-index.index c.index-place.result.now st.places inside c.index-place.ensures in
-    omega (arith, near, st.tracks.places)
-
-pub lower-requires-clause-some : goal.lower-requires-clause-some
-lower-requires-clause-some c = omega (arith, c.at.ensures, c.if-at-eq0.false)
-
-pub before-requires-clause-room : goal.before-requires-clause-room
-before-requires-clause-room c = omega (arith, c.loop-index.invariant.2.few, c.loop-index-test.true, c.deref-event-items.type_inv.0)
-
-pub raise-requires-clause-room : goal.raise-requires-clause-room
-raise-requires-clause-room c = omega (arith, c.loop-index.invariant.2.few, c.loop-index-test.true, c.deref-event-items.type_inv.0)
+pub lower-requires : goal.lower-requires
+lower-requires c = record {
+  inside =
+      let st = c.loop-index.invariant.2 in
+      let inside : c.loop-index.index < length c.args.recorded.now.events.items = omega (arith, c.loop-index-test.true, c.deref-event-items.ensures.len) in
+      let near = place_near c.args.recorded.now.events.items c.loop-index.invariant.1 c.in_ok-places.places.of_events.items c.loop-index.index c.index-place.result.now st.places inside c.index-place.ensures in
+      omega (arith, near, st.tracks.places);
+  some = omega (arith, c.at.ensures, c.if-at-eq0.false);
+}
 
 pub index-place-requires : goal.index-place-requires
 index-place-requires c =

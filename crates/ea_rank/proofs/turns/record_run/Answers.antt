@@ -21,14 +21,17 @@ use Rattle.ea_rank.proofs.Recording.{recorded-none, recorded-pops, recorded-empt
 use Rattle.ea_rank.proofs.Underways.{less-pops, underway-none, underway-pops, underway-fixed, underway-popped, popped_known}
 use Rattle.ea_rank.proofs.turns.record_run.Goals as goal
 
-pub sow-requires-clause-underway : goal.sow-requires-clause-underway
-sow-requires-clause-underway g c =
-    let made = c.in_ok-run.ensures in
-    let state = state_of c.in_ok-run.run' in
-    let none : (f : Entry → ℕ) → weighs f c.in_ok-run.run'.heaps ≡ 0 = λ f. ap (weighs f) made.1 ∙ fresh_weighs f c.args.heaps in
-    let empty : total (λ (es : List Entry). length es) c.in_ok-run.run'.heaps ≡ 0 = ap (total (λ (es : List Entry). length es)) made.1 ∙ fresh_length c.args.heaps in
-    let labels : c.in_ok-run.run'.labels.items ≡ replicate c.args.network.now.nodes NONE = made.0 ∙ ap (λ (n : ℕ). replicate n NONE) c.nodes.ensures.nodes in
-    ([], underway-none c.args.network.now _ c.args.query.now.sources c.nodes.ensures.network [] state labels (none (λ e. 1)) empty, recorded-none state made.2 none)
+pub sow-requires-clause-may : goal.sow-requires-clause-may
+sow-requires-clause-may g c = record {
+  on_course =
+      let made = c.in_ok-run.ensures in
+      let state = state_of c.in_ok-run.run' in
+      let none : (f : Entry → ℕ) → weighs f c.in_ok-run.run'.heaps ≡ 0 = λ f. ap (weighs f) made.1 ∙ fresh_weighs f c.args.heaps in
+      let empty : total (λ (es : List Entry). length es) c.in_ok-run.run'.heaps ≡ 0 = ap (total (λ (es : List Entry). length es)) made.1 ∙ fresh_length c.args.heaps in
+      let labels : c.in_ok-run.run'.labels.items ≡ replicate c.args.network.now.nodes NONE = made.0 ∙ ap (λ (n : ℕ). replicate n NONE) c.nodes.ensures.nodes in
+      ([], underway-none c.args.network.now _ c.args.query.now.sources c.nodes.ensures.network [] state labels (none (λ e. 1)) empty, recorded-none state made.2 none);
+  two_heaps = omega (arith, ap (λ (heaps : List (List Entry)). length heaps) c.in_ok-run.ensures.1, length-replicate {A = List Entry} c.args.heaps [], c.requires.heaps.0);
+}
 
 pub label-requires : goal.label-requires
 label-requires g c =
@@ -37,35 +40,36 @@ label-requires g c =
     let known = popped_known c.args.network.now _ c.args.query.now.sources c.nodes.ensures.network inv.underway.0 _ _ c.in-Some.entry (state_of c.loop-run.run) (state_of c.pop.new.self) inv.underway.1 moved in
     (known.0.from_one, omega (arith, known.0.to_last, inv.underway.1.places, ap (λ (l : List ℕ). length l) moved.labels))
 
-pub scan-requires-clause-node : goal.scan-requires-clause-node
-scan-requires-clause-node g c =
-    let moved = rw c.in-Some.is at c.in_ok-entry.ensures in
-    let inv = c.loop-run.invariant in
-    (popped_known c.args.network.now _ c.args.query.now.sources c.nodes.ensures.network inv.underway.0 _ _ c.in-Some.entry (state_of c.loop-run.run) (state_of c.pop.new.self) inv.underway.1 moved).0
-
-pub scan-requires-clause-departure : goal.scan-requires-clause-departure
-scan-requires-clause-departure g c =
-    let moved = rw c.in-Some.is at c.in_ok-entry.ensures in
-    let inv = c.loop-run.invariant in
-    (popped_known c.args.network.now _ c.args.query.now.sources c.nodes.ensures.network inv.underway.0 _ _ c.in-Some.entry (state_of c.loop-run.run) (state_of c.pop.new.self) inv.underway.1 moved).1
-
-pub scan-requires-clause-label : goal.scan-requires-clause-label
-scan-requires-clause-label g c =
-    let moved = rw c.in-Some.is at c.in_ok-entry.ensures in
-    let inv = c.loop-run.invariant in
-    let known = popped_known c.args.network.now _ c.args.query.now.sources c.nodes.ensures.network inv.underway.0 _ _ c.in-Some.entry (state_of c.loop-run.run) (state_of c.pop.new.self) inv.underway.1 moved in
-    omega (arith, known.2, c.label.ensures, c.if-entry-label.true)
-
-pub scan-requires-clause-underway : goal.scan-requires-clause-underway
-scan-requires-clause-underway g c =
-    let moved = rw c.in-Some.is at c.in_ok-entry.ensures in
-    let inv = c.loop-run.invariant in
-    let roads = c.args.network.now in
-    let entry = c.in-Some.entry in (
-      inv.underway.0 ++ entry ∷ [],
-      underway-pops roads _ c.args.query.now.sources c.nodes.ensures.network (leaving roads entry.node) inv.underway.0 _ _ entry (state_of c.loop-run.run) (state_of c.pop.new.self) (inr (λ number arc is_arc tail. leaving_has roads entry.node number arc is_arc tail)) inv.underway.1 moved,
-      recorded-pops _ _ entry inv.underway.0 (state_of c.loop-run.run) (state_of c.pop.new.self) inv.underway.2 moved,
-    )
+pub scan-requires-clause-may : goal.scan-requires-clause-may
+scan-requires-clause-may g c = record {
+  is_node =
+      let moved = rw c.in-Some.is at c.in_ok-entry.ensures in
+      let inv = c.loop-run.invariant in
+      (popped_known c.args.network.now _ c.args.query.now.sources c.nodes.ensures.network inv.underway.0 _ _ c.in-Some.entry (state_of c.loop-run.run) (state_of c.pop.new.self) inv.underway.1 moved).0;
+  in_time =
+      let moved = rw c.in-Some.is at c.in_ok-entry.ensures in
+      let inv = c.loop-run.invariant in
+      (popped_known c.args.network.now _ c.args.query.now.sources c.nodes.ensures.network inv.underway.0 _ _ c.in-Some.entry (state_of c.loop-run.run) (state_of c.pop.new.self) inv.underway.1 moved).1;
+  label_is =
+      let moved = rw c.in-Some.is at c.in_ok-entry.ensures in
+      let inv = c.loop-run.invariant in
+      let known = popped_known c.args.network.now _ c.args.query.now.sources c.nodes.ensures.network inv.underway.0 _ _ c.in-Some.entry (state_of c.loop-run.run) (state_of c.pop.new.self) inv.underway.1 moved in
+      omega (arith, known.2, c.label.ensures, c.if-entry-label.true);
+  may_go_on = record {
+    on_course =
+        let moved = rw c.in-Some.is at c.in_ok-entry.ensures in
+        let inv = c.loop-run.invariant in
+        let roads = c.args.network.now in
+        let entry = c.in-Some.entry in (
+          inv.underway.0 ++ entry ∷ [],
+          underway-pops roads _ c.args.query.now.sources c.nodes.ensures.network (leaving roads entry.node) inv.underway.0 _ _ entry (state_of c.loop-run.run) (state_of c.pop.new.self) (inr (λ number arc is_arc tail. leaving_has roads entry.node number arc is_arc tail)) inv.underway.1 moved,
+          recorded-pops _ _ entry inv.underway.0 (state_of c.loop-run.run) (state_of c.pop.new.self) inv.underway.2 moved,
+        );
+    two_heaps =
+        let moved = rw c.in-Some.is at c.in_ok-entry.ensures in
+        omega (arith, takes-length _ c.in-Some.entry c.loop-run.run.heaps c.pop.new.self.heaps moved.heaps.taken, c.loop-run.invariant.heaps, c.requires.heaps.0);
+  };
+}
 
 pub loop-run-smaller-in-Continue-branch-5 : goal.loop-run-smaller-in-Continue-branch-5
 loop-run-smaller-in-Continue-branch-5 g c =
@@ -102,68 +106,64 @@ fixed_labels_are_least-requires-clause-fixed g c =
     let labels = ap (λ (s : State). s.labels) told.1 in
     rw (c.deref.ensures.value, labels) (underway-fixed c.args.network.now _ c.args.query.now.sources c.nodes.ensures.network c.args.query.now.target inv.underway.0 (state_of c.loop-run.run) told.0 inv.underway.1)
 
-pub returns-clause-empty : goal.returns-clause-empty
-returns-clause-empty g c =
-    let told = rw c.in_default.is at c.in_ok-entry.ensures in
-    let inv = c.loop-run.invariant in
-    let events = ap (λ (s : State). s.events) told.1 in
-    subst (λ (e : List Event). queue_after [] e ≡ []) (sym events) (recorded-empty inv.underway.0 (state_of c.loop-run.run) (none_weighs (λ e. 1) c.loop-run.run.heaps told.0) inv.underway.2)
-
-pub returns-clause-ranks : goal.returns-clause-ranks
-returns-clause-ranks g c =
-    let told = rw c.in_default.is at c.in_ok-entry.ensures in
-    let recorded = c.loop-run.invariant.underway.2 in
-    let events = ap (λ (s : State). s.events) told.1 in record {
-      ranks = recorded.ranks;
-      found = subst (λ (e : List Event). rank_errors e ≡ Ok recorded.ranks) (sym events) recorded.found;
-      exact = λ two. recorded.exact (c.loop-run.invariant.heaps ∙ two);
-    }
-
-pub returns-clause-course : goal.returns-clause-course
-returns-clause-course g c =
-    let told = rw c.in_default.is at c.in_ok-entry.ensures in record {
-      rest = g.R.Rng.stream c.loop-run.rng;
-      state = state_of c.loop-run.run;
-      begun = c.loop-run.invariant.course;
-      empty = told.0;
-      events_are = ap (λ (s : State). s.events) told.1;
-    }
-
-pub returns-clause-least : goal.returns-clause-least
-returns-clause-least g c =
-    let told = rw c.in_default.is at c.in_ok-entry.ensures in
-    let inv = c.loop-run.invariant in
-    let popped = inv.underway.0 in
-    let u = inv.underway.1 in
-    let labels = ap (λ (s : State). s.labels) told.1 in
-    let events = ap (λ (s : State). s.events) told.1 in
-    let old = c.loop-run.run.labels.items in
-    let least = rw (c.deref.ensures.value, labels) at c.fixed_labels_are_least.ensures.asked in record {
-      labels = old;
-      places = u.places;
-      least = λ node there. least node there (subst (λ (target : Option ℕ). IsAskedBy target node) (sym c.requires.asks_all) tt);
-      contained = λ time within. rw events (popped_as_often time old popped _
-          (λ node some near at. (
-          let labelled : label_of old node ≢ NONE = λ z. absurd (omega arith) in
-          let there = underway-popped c.args.network.now _ c.args.query.now.sources c.nodes.ensures.network popped (state_of c.loop-run.run) told.0 u node (record { from_one = some; to_last = omega (arith, u.places) }) labelled in
-          subst (λ (x : ℕ). 0 < times (entry_of node x) popped) at there))
-          inv.underway.2.keys);
-    }
+pub returns : goal.returns
+returns g c = record {
+  ranks =
+      let told = rw c.in_default.is at c.in_ok-entry.ensures in
+      let recorded = c.loop-run.invariant.underway.2 in
+      let events = ap (λ (s : State). s.events) told.1 in record {
+        ranks = recorded.ranks;
+        found = subst (λ (e : List Event). rank_errors e ≡ Ok recorded.ranks) (sym events) recorded.found;
+        exact = λ two. recorded.exact (c.loop-run.invariant.heaps ∙ two);
+      };
+  empty =
+      let told = rw c.in_default.is at c.in_ok-entry.ensures in
+      let inv = c.loop-run.invariant in
+      let events = ap (λ (s : State). s.events) told.1 in
+      subst (λ (e : List Event). queue_after [] e ≡ []) (sym events) (recorded-empty inv.underway.0 (state_of c.loop-run.run) (none_weighs (λ e. 1) c.loop-run.run.heaps told.0) inv.underway.2);
+  least =
+      let told = rw c.in_default.is at c.in_ok-entry.ensures in
+      let inv = c.loop-run.invariant in
+      let popped = inv.underway.0 in
+      let u = inv.underway.1 in
+      let labels = ap (λ (s : State). s.labels) told.1 in
+      let events = ap (λ (s : State). s.events) told.1 in
+      let old = c.loop-run.run.labels.items in
+      let least = rw (c.deref.ensures.value, labels) at c.fixed_labels_are_least.ensures.asked in record {
+        labels = old;
+        places = u.places;
+        least = λ node there. least node there (subst (λ (target : Option ℕ). IsAskedBy target node) (sym c.requires.asks_all) tt);
+        contained = λ time within. rw events (popped_as_often time old popped _
+            (λ node some near at. (
+            let labelled : label_of old node ≢ NONE = λ z. absurd (omega arith) in
+            let there = underway-popped c.args.network.now _ c.args.query.now.sources c.nodes.ensures.network popped (state_of c.loop-run.run) told.0 u node (record { from_one = some; to_last = omega (arith, u.places) }) labelled in
+            subst (λ (x : ℕ). 0 < times (entry_of node x) popped) at there))
+            inv.underway.2.keys);
+      };
+  course =
+      let told = rw c.in_default.is at c.in_ok-entry.ensures in record {
+        rest = g.R.Rng.stream c.loop-run.rng;
+        state = state_of c.loop-run.run;
+        begun = c.loop-run.invariant.course;
+        empty = told.0;
+        events_are = ap (λ (s : State). s.events) told.1;
+      };
+}
 
 pub loop-run-init : goal.loop-run-init
 loop-run-init g c =
     let made = c.in_ok-run.ensures in
-    let sown = c.in_ok-sow.ensures.course in record {
-      underway = c.in_ok-sow.ensures.underway;
-      heaps = c.in_ok-sow.ensures.heaps ∙ ap (λ (heaps : List (List Entry)). length heaps) made.1 ∙ length-replicate c.args.heaps [];
+    let sown = c.in_ok-sow.ensures in record {
+      underway = c.in_ok-sow.ensures.on_course;
+      heaps = c.in_ok-sow.ensures.heaps_are ∙ ap (λ (heaps : List (List Entry)). length heaps) made.1 ∙ length-replicate c.args.heaps [];
       course = record {
         start = state_of c.in_ok-run.run';
         sown = state_of c.sow.new.run;
-        pushes = sown.0;
+        pushes = sown.pushes;
         labels = made.0 ∙ ap (λ (n : ℕ). replicate n NONE) c.nodes.ensures.nodes;
         heaps_are = made.1;
         nothing = made.2;
-        sows = sown.1;
+        sows = sown.sows;
         turns = begins;
       };
     }
@@ -174,15 +174,10 @@ loop-run-preserved-in-Continue-branch-5 g c =
     let inv = c.loop-run.invariant in
     let entry = c.in-Some.entry in
     let fresh : entry.key ≤ label_of c.pop.new.self.labels.items entry.node = omega (arith, c.label.ensures, c.if-entry-label.true) in record {
-      underway = c.in_ok-scan.ensures.underway;
-      heaps = c.in_ok-scan.ensures.heaps ∙ takes-length _ entry c.loop-run.run.heaps c.pop.new.self.heaps moved.heaps.taken ∙ inv.heaps;
+      underway = c.in_ok-scan.ensures.on_course;
+      heaps = c.in_ok-scan.ensures.heaps_are ∙ takes-length _ entry c.loop-run.run.heaps c.pop.new.self.heaps moved.heaps.taken ∙ inv.heaps;
       course = turn_scans c.args.network.now _ c.args.heaps _ _ _ _ _ c.args.query.now.sources (state_of c.loop-run.run) (state_of c.pop.new.self) (state_of c.scan.new.run) _ _ entry inv.course c.next_u64.ensures c.next_u64-in-loop-run.ensures moved fresh c.in_ok-scan.ensures.course;
     }
 
-pub pop-requires-clause-heaps : goal.pop-requires-clause-heaps
-pop-requires-clause-heaps g c = c.loop-run.invariant.heaps
-
-pub scan-requires-clause-heaps : goal.scan-requires-clause-heaps
-scan-requires-clause-heaps g c =
-    let moved = rw c.in-Some.is at c.in_ok-entry.ensures in
-    omega (arith, takes-length _ c.in-Some.entry c.loop-run.run.heaps c.pop.new.self.heaps moved.heaps.taken, c.loop-run.invariant.heaps, c.requires.heaps.0)
+pub pop-requires : goal.pop-requires
+pop-requires g c = record { are = c.loop-run.invariant.heaps; two = c.requires.heaps.0; few = c.requires.heaps.1 }

@@ -24,7 +24,7 @@ arrive-arrival-requires g c =
     let roads = c.args.network.now in
     let arcs = c.leaving.result.arcs.now in
     let is_arc = arc_beside roads c.args.node c.leaving.result.numbers.now arcs c.loop-place.place none c.leaving.ensures.arcs c.loop-place-test.true in
-    rw c.from.ensures (is_question roads _ _ c.args.departure (with_tail (get_or arcs c.loop-place.place none) c.args.node) c.leaving.ensures.network c.requires.problem.classed is_arc c.requires.departure)
+    rw c.from.ensures (is_question roads _ _ c.args.departure (with_tail (get_or arcs c.loop-place.place none) c.args.node) c.leaving.ensures.network c.requires.problem.classed is_arc c.requires.may.in_time)
 
 pub loop-place-preserved : goal.loop-place-preserved
 loop-place-preserved g c =
@@ -54,9 +54,9 @@ loop-place-preserved g c =
           let by = w.in_ok-lower.ensures in
           let moved = by.lowers in
           let low : arrival < label_of c.loop-place.run.labels.items arc.head = omega (arith, w.label.ensures, w.if-arrival-label.true) in
-          let later = fifo.not_before arc.class arc.weight c.args.departure arrival (is_question roads _ number c.args.departure arc network classed is_arc c.requires.departure) answer in
+          let later = fifo.not_before arc.class arc.weight c.args.departure arrival (is_question roads _ number c.args.departure arc network classed is_arc c.requires.may.in_time) answer in
           let passed = pass-lowers roads _ sources network _ fifo classed rest popped number node c.args.departure arrival arc (state_of c.loop-place.run) (state_of w.lower.new.self)
-          c.requires.node c.requires.departure inv.label is_arc refl answer later w.if-arrival-le-HORIZON.true low was moved in
+          c.requires.may.is_node c.requires.may.in_time inv.label is_arc refl answer later w.if-arrival-le-HORIZON.true low was moved in
           let head = (network.each_fits number arc is_arc).head in
           let course = scan_pushes roads _ c.args.departure (take i numbers) _ _ _ (state_of c.args.run.now) (state_of c.loop-place.run) (state_of w.lower.new.self) number arrival _ arc inv.course is_arc answer w.if-arrival-le-HORIZON.true low by w.next_u64.ensures in
           rw (w.run-is, w.rng-is) (record {
@@ -74,7 +74,7 @@ loop-place-preserved g c =
           rw (w.run-is, w.rng-is) (record {
             underway = (
               popped,
-              pass-keeps roads _ sources network _ fifo classed rest popped number node c.args.departure arrival arc (state_of c.loop-place.run) c.requires.departure inv.label is_arc refl answer why was,
+              pass-keeps roads _ sources network _ fifo classed rest popped number node c.args.departure arrival arc (state_of c.loop-place.run) c.requires.may.in_time inv.label is_arc refl answer why was,
               inv.underway.2,
             );
             label = inv.label;
@@ -98,28 +98,27 @@ lower-requires-clause-node g c =
 
 pub loop-place-init : goal.loop-place-init
 loop-place-init g c = record {
-  underway = c.requires.underway;
-  label = c.requires.label;
+  underway = c.requires.may.may_go_on.on_course;
+  label = c.requires.may.label_is;
   heaps = refl;
   less = omega arith;
   course = begins;
 }
 
 pub lower-requires-clause-heaps : goal.lower-requires-clause-heaps
-lower-requires-clause-heaps g c = omega (arith, c.loop-place.invariant.heaps, c.requires.heaps)
+lower-requires-clause-heaps g c = omega (arith, c.loop-place.invariant.heaps, c.requires.may.may_go_on.two_heaps)
 
-pub returns-clause-less : goal.returns-clause-less
-returns-clause-less g c = c.loop-place.invariant.less
-
-pub returns-clause-course : goal.returns-clause-course
-returns-clause-course g c =
-    let beside = rw c.leaving.ensures.numbers at c.leaving.ensures.arcs in
-    let all = take_all c.loop-place.place (leaving c.args.network.now c.args.node) (omega (arith, beside.lengths, c.loop-place-test.false)) in
-    subst (λ passed. Scans c.args.network.now (g.T.TravelTimes.answers c.args.times.now) c.args.departure passed (g.R.Rng.stream c.args.rng.now) (state_of c.args.run.now) (g.R.Rng.stream c.loop-place.rng) (state_of c.loop-place.run)) all c.loop-place.invariant.course
-
-pub returns-clause-underway : goal.returns-clause-underway
-returns-clause-underway g c =
-    let beside = rw c.leaving.ensures.numbers at c.leaving.ensures.arcs in
-    let none = drop_all c.loop-place.place (leaving c.args.network.now c.args.node) (omega (arith, beside.lengths, c.loop-place-test.false)) in
-    let sources = c.args.query.now.sources in
-    subst (λ left. IsOnCourse c.args.network.now (g.T.TravelTimes.answers c.args.times.now) sources sources left (state_of c.loop-place.run)) none c.loop-place.invariant.underway
+pub returns : goal.returns
+returns g c = record {
+  on_course =
+      let beside = rw c.leaving.ensures.numbers at c.leaving.ensures.arcs in
+      let none = drop_all c.loop-place.place (leaving c.args.network.now c.args.node) (omega (arith, beside.lengths, c.loop-place-test.false)) in
+      let sources = c.args.query.now.sources in
+      subst (λ left. IsOnCourse c.args.network.now (g.T.TravelTimes.answers c.args.times.now) sources sources left (state_of c.loop-place.run)) none c.loop-place.invariant.underway;
+  heaps_are = c.loop-place.invariant.heaps;
+  less = c.loop-place.invariant.less;
+  course =
+      let beside = rw c.leaving.ensures.numbers at c.leaving.ensures.arcs in
+      let all = take_all c.loop-place.place (leaving c.args.network.now c.args.node) (omega (arith, beside.lengths, c.loop-place-test.false)) in
+      subst (λ passed. Scans c.args.network.now (g.T.TravelTimes.answers c.args.times.now) c.args.departure passed (g.R.Rng.stream c.args.rng.now) (state_of c.args.run.now) (g.R.Rng.stream c.loop-place.rng) (state_of c.loop-place.run)) all c.loop-place.invariant.course;
+}

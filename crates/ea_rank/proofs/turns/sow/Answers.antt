@@ -65,22 +65,23 @@ loop-source-preserved g c =
 
 pub loop-source-init : goal.loop-source-init
 loop-source-init g c = record {
-  underway = c.requires.underway;
+  underway = c.requires.may.on_course;
   heaps = refl;
   course = begins;
   few = omega arith;
 }
 
 pub lower-requires-clause-heaps : goal.lower-requires-clause-heaps
-lower-requires-clause-heaps g c = omega (arith, c.loop-source.invariant.heaps, c.requires.heaps)
+lower-requires-clause-heaps g c = omega (arith, c.loop-source.invariant.heaps, c.requires.may.two_heaps)
 
-pub returns-clause-course : goal.returns-clause-course
-returns-clause-course g c =
-    let all = take_all c.loop-source.source-index c.sources-source-items.result.now (omega (arith, c.loop-source-test.false)) ∙ c.sources-source-items.ensures.sources in
-    let pushed = c.loop-source.word in
-    (pushed, subst (λ sources. Sows sources (state_of c.args.run.now) pushed (state_of c.loop-source.run)) all c.loop-source.invariant.course)
-
-pub returns-clause-underway : goal.returns-clause-underway
-returns-clause-underway g c =
-    let all = take_all c.loop-source.source-index c.sources-source-items.result.now (omega (arith, c.loop-source-test.false)) ∙ c.sources-source-items.ensures.sources in
-    subst (λ sources. IsOnCourse c.args.network.now (g.T.TravelTimes.answers c.args.times.now) c.args.query.now.sources sources [] (state_of c.loop-source.run)) all c.loop-source.invariant.underway
+pub returns : goal.returns
+returns g c = record {
+  on_course =
+      let all = take_all c.loop-source.source-index c.sources-source-items.result.now (omega (arith, c.loop-source-test.false)) ∙ c.sources-source-items.ensures.sources in
+      subst (λ sources. IsOnCourse c.args.network.now (g.T.TravelTimes.answers c.args.times.now) c.args.query.now.sources sources [] (state_of c.loop-source.run)) all c.loop-source.invariant.underway;
+  heaps_are = c.loop-source.invariant.heaps;
+  pushes = c.loop-source.word;
+  sows =
+      let all = take_all c.loop-source.source-index c.sources-source-items.result.now (omega (arith, c.loop-source-test.false)) ∙ c.sources-source-items.ensures.sources in
+      subst (λ sources. Sows sources (state_of c.args.run.now) c.loop-source.word (state_of c.loop-source.run)) all c.loop-source.invariant.course;
+}

@@ -9,9 +9,9 @@ overflow_add-sum c =
     let place = c.loop-place.place in
     let items = c.self.inside.sums.items in
     let long = ap (λ (l : List ℕ). length l) c.self.view_is in
-    let inside : place < length xs = omega (arith, c.loop-place-test.true, c.requires.inside) in
+    let inside : place < length xs = omega (arith, c.loop-place-test.true, c.requires.may.inside) in
     let read : c.index.result.now ≡ get_or xs place 0 = get_or_read items place c.index.result.now (omega (arith, long)) c.index.ensures 0 ∙ ap (λ (l : List ℕ). get_or l place 0) c.self.view_is in
-    omega (arith, read, added-take_more xs place inside, added-take xs (place + 1), c.loop-place.invariant, c.requires.room)
+    omega (arith, read, added-take_more xs place inside, added-take xs (place + 1), c.loop-place.invariant, c.requires.may.room)
 
 pub loop-place-preserved : goal.loop-place-preserved
 loop-place-preserved c =
@@ -19,6 +19,6 @@ loop-place-preserved c =
     let place = c.loop-place.place in
     let items = c.self.inside.sums.items in
     let long = ap (λ (l : List ℕ). length l) c.self.view_is in
-    let inside : place < length xs = omega (arith, c.loop-place-test.true, c.requires.inside) in
+    let inside : place < length xs = omega (arith, c.loop-place-test.true, c.requires.may.inside) in
     let read : c.index.result.now ≡ get_or xs place 0 = get_or_read items place c.index.result.now (omega (arith, long)) c.index.ensures 0 ∙ ap (λ (l : List ℕ). get_or l place 0) c.self.view_is in
     omega (arith, read, added-take_more xs place inside, c.loop-place.invariant)
