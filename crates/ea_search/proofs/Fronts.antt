@@ -1,11 +1,11 @@
 -- Entries that a frontier gains and loses.
-use Rattle.std.proofs.Common.{◌≡◌, ℕ, zero, suc, ◌+◌, ◌<◌, ◌≤◌, List, Option, Some, None, MatchOption, option_to_list, [], ◌∷◌, ◌++◌, length, get_or, set, map, sum_by, Contains, refl, sym, ◌∙◌, ap, subst, ◌⊎◌, inl, inr, arith}
+use Rattle.std.proofs.Common.{◌≡◌, ℕ, zero, suc, ◌+◌, ◌<◌, ◌≤◌, List, Option, Some, None, MatchOption, IfSome, option_to_list, [], ◌∷◌, ◌++◌, length, get_or, set, map, sum_by, Contains, refl, sym, ◌∙◌, ap, subst, ◌⊎◌, inl, inr, arith}
 use Rattle.std.proofs.lemmas.Bool.{cases_eq}
 use Rattle.std.proofs.lemmas.List.{append-nil, get_or-map, get_or-set_same, get_or-set_other, length-set, length-append, length-map, map-append, map-set, nil_from_length}
 use Rattle.std.proofs.Math.Seq.{map-set_same}
 use Rattle.std.proofs.lemmas.List.Elements.{Contains-append_left, Contains-push, Contains-push_cases}
 use Rattle.std.proofs.lemmas.List.Sums.{get_or-le-sum_by, sum_by-append, sum_by-set}
-use Rattle.ea_search.specs.Frontiers.{HaveNone, AreEntries, Frontage, HasNone, IsIn, KeepsWaiting, Puts, Takes, WaitsAt}
+use Rattle.ea_search.specs.Frontiers.{HaveNone, AreEntries, Frontage, HasNone, IsIn, KeepsWaiting, Puts, Takes, TakesWaiting, WaitsAt}
 use Rattle.ea_search.specs.Worklist.{Worklist}
 
 abbrev Entries : Type 0
@@ -215,9 +215,11 @@ waiting_moved label node first middle last time taken same is puts v waits = eli
 
 -- the node that has waited longest is taken out of the list
 pub taken_waiting : (found : Option ℕ) (lists : List Entries) (old new : Worklist) → MatchOption found ((old.waiting ≡ []) × (new ≡ old)) (λ node. old.waiting ≡ node ∷ new.waiting)
-    → MatchOption found (◌≡◌ {A = Frontage} (record { lists = lists; todo = new }) (record { lists = lists; todo = old })) (λ node. old.waiting ≡ node ∷ new.waiting)
-taken_waiting None lists old new h = ap (λ (t : Worklist). (λ (f : Frontage). f) (record { lists = lists; todo = t })) h.1
-taken_waiting (Some n) lists old new h = h
+    → (new.nodes ≡ old.nodes) × (new.walks ≡ old.walks)
+    → IfSome found (λ node. (0 < node) × (node ≤ old.nodes))
+    → MatchOption found (◌≡◌ {A = Frontage} (record { lists = lists; todo = new }) (record { lists = lists; todo = old })) (λ node. TakesWaiting node (record { lists = lists; todo = old }) (record { lists = lists; todo = new }))
+taken_waiting None lists old new h room is_node = ap (λ (t : Worklist). (λ (f : Frontage). f) (record { lists = lists; todo = t })) h.1
+taken_waiting (Some n) lists old new h room is_node = record { is_node = is_node; waited = h; lists = refl; nodes = room.0; walks = room.1 }
 
 pub all_empty : (lists : List Entries) → length lists ≡ 66 → ((place : ℕ) → place < 66 → get_or lists place [] ≡ []) → HaveNone lists
 all_empty lists many each entry is =

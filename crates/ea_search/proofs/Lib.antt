@@ -8,3 +8,4 @@ pub mod Fronts
 pub mod Listings
 pub mod Gatherings
 pub mod Places
+pub mod Steps

@@ -1,5 +1,5 @@
 -- The frontier of a search: unordered lists of entries, and a list of waiting nodes.
-use Rattle.std.specs.Prelude.{◌≡◌, ℕ, ◌+◌, ◌<◌, ◌≤◌, List, [], length, sum_by, slice_index_or, Contains, ◌⊎◌}
+use Rattle.std.specs.Prelude.{◌≡◌, ℕ, ◌+◌, ◌<◌, ◌≤◌, List, [], ◌∷◌, length, sum_by, slice_index_or, Contains, ◌⊎◌}
 use Rattle.ea_search.specs.Worklist.{Worklist}
 
 pub record Frontage : Type 0 where
@@ -41,6 +41,14 @@ pub record Takes (label : ℕ → ℕ) (entry : ℕ × ℕ) (before after : Fron
   pub node : (0 < entry.1) × (entry.1 ≤ before.todo.nodes)
   pub fewer : entries_in after + 1 ≤ entries_in before
   pub rest : (node : ℕ) → WaitsAt before label node → (entry ≡ (label node, node)) ⊎ WaitsAt after label node
+  pub nodes : after.todo.nodes ≡ before.todo.nodes
+  pub walks : after.todo.walks ≡ before.todo.walks
+
+-- The node that waited longest is taken out of the waiting list; the entries stay.
+pub record TakesWaiting (node : ℕ) (before after : Frontage) : Type 0 where
+  pub is_node : (0 < node) × (node ≤ before.todo.nodes)
+  pub waited : before.todo.waiting ≡ node ∷ after.todo.waiting
+  pub lists : after.lists ≡ before.lists
   pub nodes : after.todo.nodes ≡ before.todo.nodes
   pub walks : after.todo.walks ≡ before.todo.walks
 

@@ -7,3 +7,5 @@ pub mod Frontiers
 pub mod Listings
 pub mod Notes
 pub mod Candidates
+pub mod Tables
+pub mod Searching

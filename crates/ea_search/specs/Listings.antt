@@ -31,6 +31,11 @@ AreLabelsListed table listed = (node : ℕ) → bound_of table node ≢ NONE →
 abbrev pub AreLinksListed : List Link → (ℕ → Type 0) → Type 0
 AreLinksListed links listed = (node : ℕ) → (link links node ≡ no_link) ⊎ listed node
 
+-- A node was reset to what it is at first, and all others are as before.
+pub record ResetsAt {A : Type 0} (node : ℕ) (first : A) (before after : ℕ → A) : Type 0 where
+  pub reset : after node ≡ first
+  pub others : (v : ℕ) → v ≢ node → after v ≡ before v
+
 -- How many nodes a search has room for, whether it has room for walks, and its last answer.
 pub record Searched : Type 0 where
   pub nodes : ℕ

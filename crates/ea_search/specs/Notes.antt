@@ -1,9 +1,9 @@
 -- The log of a search: the arcs by which labels fell or were met.
-use Rattle.std.specs.Prelude.{◌≡◌, ◌≢◌, ℕ, ◌≤◌, ◌%◌, ◌/◌, nat_eq, map, false, List, [], ◌∷◌, ◌⊎◌}
+use Rattle.std.specs.Prelude.{◌≡◌, ◌≢◌, ℕ, ◌<◌, ◌≤◌, ◌%◌, ◌/◌, nat_eq, map, false, List, [], ◌∷◌, ◌⊎◌}
 use Rattle.ea_base.specs.declared.limits.TheConstants.{HORIZON}
 use Rattle.ea_road.specs.Roads.{Roads}
 use Rattle.ea_search.specs.declared.log.note.Note.{Note}
-use Rattle.ea_search.specs.declared.log.note.TheConstants.{AGAIN, NODES, PLACE}
+use Rattle.ea_search.specs.declared.log.note.TheConstants.{AGAIN, NODES, PLACE, PLACES}
 use Rattle.ea_search.specs.Scans.{Step, IsPlaced}
 use Rattle.ea_search.specs.Underway.{bound_of}
 
@@ -16,6 +16,12 @@ note_in word = record {
   place = word / PLACE;
   again = nat_eq (word / AGAIN % 2) 1;
 }
+
+-- A note fits into a word.
+pub record FitsWord (note : Note) : Type 0 where
+  pub node_fits : note.node < NODES
+  pub from_fits : note.from < NODES
+  pub place_fits : note.place < PLACES
 
 abbrev pub notes_in : List ℕ → List Note
 notes_in words = map note_in words

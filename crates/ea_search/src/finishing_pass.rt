@@ -1,14 +1,14 @@
-ghost use Rattle.std.specs.Prelude.{◌≡◌, ℕ, ◌+◌, ◌<◌, ◌≤◌, [], ◌∷◌, List, length, sum, Contains, IfSome};
-ghost use Rattle.ea_base.specs.declared.limits.TheConstants.{HORIZON};
+ghost use Rattle.std.specs.Prelude.{◌≡◌, ℕ, ◌<◌, ◌≤◌, [], ◌∷◌, List, length, Contains, IfSome};
 ghost use Rattle.ea_road.specs.declared.TheConstants.{NONE};
 ghost use Rattle.ea_road.specs.Arrivals.{IsLeast, IsLeastAt};
 ghost use Rattle.ea_road.specs.Labels.{label_of, limit, time_of};
-ghost use Rattle.ea_road.specs.Queries.{IsAsked, IsProblem};
-ghost use Rattle.ea_road.specs.Roads.{IsArc, IsNode, leaving, top_class};
-ghost use Rattle.ea_search.specs.Listings.{AreLabelsListed, KeepsListed};
+ghost use Rattle.ea_road.specs.Queries.{IsAsked};
+ghost use Rattle.ea_road.specs.Roads.{IsNode, leaving};
 ghost use Rattle.ea_search.specs.Notes.{AreHad};
-ghost use Rattle.ea_search.specs.Scans.{AddsHad, AwaitsScans, FallsBy, IsHadAt, KeepsLess, KeepsMet, Scanned, number_at};
-ghost use Rattle.ea_search.specs.Underway.{IsFinished, IsUnderway, bound_of};
+ghost use Rattle.ea_search.specs.Scans.{AwaitsScans, KeepsLess, KeepsMet, Scanned, number_at};
+ghost use Rattle.ea_search.specs.Searching.{CanBeOffered, CanFinish, CanRelax, CanRelaxFrom, CanSearchOn};
+ghost use Rattle.ea_search.specs.Searching.{FinishesFrom, KeepsSearch, OfferedBy, SearchesOn};
+ghost use Rattle.ea_search.specs.Underway.{IsFinished, bound_of};
 
 use crate::labels::table::{Bare, Table};
 use crate::queue::open::Open;
@@ -28,18 +28,16 @@ pub struct Finished {
 
 /// Offers a source's node its departure: if its label is above it, the label falls and the node is opened.
 pub fn start<L: Table, W: Opens>(table: &mut L, todo: &mut W, node: u32, departure: u64)
-    requires node { (0 < node) × (node ≤ (W.room todo.old).nodes) }
-    requires in_time { departure ≤ HORIZON }
-    requires places { length (L.labels table.old) ≡ (W.room todo.old).nodes }
+    requires { CanBeOffered (W.room todo.old).nodes (L.labels table.old) node departure }
     ensures lowers { KeepsLess node departure
         (L.labels table.old) (W.waits todo.old (bound_of (L.labels table.old)))
         (L.labels table.new) (W.waits todo.new (bound_of (L.labels table.new))) }
     ensures still { KeepsMet (L.labels table.old) (L.met table.old)
         (L.labels table.new) (L.met table.new) }
     ensures adds { (v u k : ℕ) → L.had table.new v u k → L.had table.old v u k }
-    ensures room { W.room todo.new ≡ W.room todo.old }
-    ensures listed { AreLabelsListed (L.labels table.old) (L.lists table.old)
-        → AreLabelsListed (L.labels table.new) (L.lists table.new) }
+    ensures keeps { KeepsSearch
+        (L.labels table.old) (L.lists table.old) (W.room todo.old) (W.size todo.old)
+        (L.labels table.new) (L.lists table.new) (W.room todo.new) (W.size todo.new) }
 {
     if departure < table.label(node) {
         table.start(node, departure);
@@ -57,21 +55,15 @@ pub fn lower<L: Table, W: Opens>(
     from: u32,
     place: usize,
 )
-    requires node { (0 < node) × (node ≤ (W.room todo.old).nodes) }
-    requires in_time { time ≤ HORIZON }
-    requires places { length (L.labels table.old) ≡ (W.room todo.old).nodes }
-    ensures lowers { KeepsLess node time
+    requires { CanBeOffered (W.room todo.old).nodes (L.labels table.old) node time }
+    ensures offered { OfferedBy node time from place
         (L.labels table.old) (W.waits todo.old (bound_of (L.labels table.old)))
-        (L.labels table.new) (W.waits todo.new (bound_of (L.labels table.new))) }
-    ensures met { bound_of (L.labels table.new) node ≡ time → L.met table.new node from place }
-    ensures still { KeepsMet (L.labels table.old) (L.met table.old)
-        (L.labels table.new) (L.met table.new) }
-    ensures adds { AddsHad (IsHadAt node from place time (L.labels table.new))
-        (L.labels table.old) (L.had table.old) (L.labels table.new) (L.had table.new) }
-    ensures spent { sum (L.labels table.new) + W.size todo.new ≤ sum (L.labels table.old) + W.size todo.old }
-    ensures room { W.room todo.new ≡ W.room todo.old }
-    ensures listed { AreLabelsListed (L.labels table.old) (L.lists table.old)
-        → AreLabelsListed (L.labels table.new) (L.lists table.new) }
+        (L.met table.old) (L.had table.old)
+        (L.labels table.new) (W.waits todo.new (bound_of (L.labels table.new)))
+        (L.met table.new) (L.had table.new) }
+    ensures keeps { KeepsSearch
+        (L.labels table.old) (L.lists table.old) (W.room todo.old) (W.size todo.old)
+        (L.labels table.new) (L.lists table.new) (W.room todo.new) (W.size todo.new) }
 {
     let before = table.label(node);
     if time < before {
@@ -92,12 +84,8 @@ fn follow<T: TravelTimes, L: Table, W: Opens>(
     table: &mut L,
     todo: &mut W,
 )
-    requires arc { IsArc network.now (number_at network.now arc.tail place) arc }
-    requires placed { place < length (leaving network.now arc.tail) }
-    requires departure { departure ≤ HORIZON }
-    requires classes { top_class network.now.arcs ≤ T.classes times.now }
-    requires places { length (L.labels table.old) ≡ network.now.nodes }
-    requires nodes { (W.room todo.old).nodes ≡ network.now.nodes }
+    requires can { CanRelax network.now (T.classes times.now) (L.labels table.old) place arc departure }
+    requires room { (W.room todo.old).nodes ≡ network.now.nodes }
     ensures scanned { Scanned network.now (T.answers times.now) arc.tail departure
         (number_at network.now arc.tail place ∷ [])
         (L.labels table.old) (W.waits todo.old (bound_of (L.labels table.old))) (L.met table.old)
@@ -105,10 +93,9 @@ fn follow<T: TravelTimes, L: Table, W: Opens>(
     ensures had { bound_of (L.labels table.old) arc.tail ≤ departure
         → AreHad network.now (T.answers times.now) (L.labels table.old) (L.had table.old)
         → AreHad network.now (T.answers times.now) (L.labels table.new) (L.had table.new) }
-    ensures spent { sum (L.labels table.new) + W.size todo.new ≤ sum (L.labels table.old) + W.size todo.old }
-    ensures room { W.room todo.new ≡ W.room todo.old }
-    ensures listed { AreLabelsListed (L.labels table.old) (L.lists table.old)
-        → AreLabelsListed (L.labels table.new) (L.lists table.new) }
+    ensures keeps { KeepsSearch
+        (L.labels table.old) (L.lists table.old) (W.room todo.old) (W.size todo.old)
+        (L.labels table.new) (L.lists table.new) (W.room todo.new) (W.size todo.new) }
 {
     network.keeps_limits();
     // An arc arrives no earlier than it is left. If all arcs are plain, computing the arrival costs less than
@@ -133,11 +120,8 @@ pub fn scan<T: TravelTimes, L: Table, W: Opens>(
     table: &mut L,
     todo: &mut W,
 )
-    requires node { IsNode network.now.nodes node }
-    requires departure { departure ≤ HORIZON }
-    requires classes { top_class network.now.arcs ≤ T.classes times.now }
-    requires places { length (L.labels table.old) ≡ network.now.nodes }
-    requires nodes { (W.room todo.old).nodes ≡ network.now.nodes }
+    requires can { CanRelaxFrom network.now (T.classes times.now) (L.labels table.old) node departure }
+    requires room { (W.room todo.old).nodes ≡ network.now.nodes }
     ensures scanned { Scanned network.now (T.answers times.now) node departure
         (leaving network.now node)
         (L.labels table.old) (W.waits todo.old (bound_of (L.labels table.old))) (L.met table.old)
@@ -145,10 +129,9 @@ pub fn scan<T: TravelTimes, L: Table, W: Opens>(
     ensures had { bound_of (L.labels table.old) node ≤ departure
         → AreHad network.now (T.answers times.now) (L.labels table.old) (L.had table.old)
         → AreHad network.now (T.answers times.now) (L.labels table.new) (L.had table.new) }
-    ensures spent { sum (L.labels table.new) + W.size todo.new ≤ sum (L.labels table.old) + W.size todo.old }
-    ensures room { W.room todo.new ≡ W.room todo.old }
-    ensures listed { AreLabelsListed (L.labels table.old) (L.lists table.old)
-        → AreLabelsListed (L.labels table.new) (L.lists table.new) }
+    ensures keeps { KeepsSearch
+        (L.labels table.old) (L.lists table.old) (W.room todo.old) (W.size todo.old)
+        (L.labels table.new) (L.lists table.new) (W.room todo.new) (W.size todo.new) }
 {
     let arcs = network.leaving(node).arcs;
     for place in 0..arcs.len() {
@@ -183,22 +166,16 @@ pub fn finish_noted<T: TravelTimes, L: Table>(
     table: &mut L,
     mut todo: Open,
 ) -> Open
-    requires problem { IsProblem network.now (T.classes times.now) query.now }
-    requires underway { AwaitsScans network.now (T.answers times.now) query.now
-        (L.labels table.old) (L.met table.old) (Contains todo.waiting) }
-    requires room { todo.nodes ≡ network.now.nodes }
+    requires { CanSearchOn network.now (T.answers times.now) (T.classes times.now) query.now
+        (L.labels table.old) (L.met table.old) (Contains todo.waiting) todo.nodes }
     ensures finished { IsFinished network.now (T.answers times.now) query.now
         (L.labels table.new) result }
     ensures met { AwaitsScans network.now (T.answers times.now) query.now
         (L.labels table.new) (L.met table.new) (Contains []) }
-    ensures had { AreHad network.now (T.answers times.now) (L.labels table.old) (L.had table.old)
-        → AreHad network.now (T.answers times.now) (L.labels table.new) (L.had table.new) }
     ensures walks { result.walks ≡ todo.walks }
-    ensures beyond { FallsBy network.now (T.answers times.now)
-        (limit query.now.target (label_of (L.labels table.old)))
-        (label_of (L.labels table.old)) (label_of (L.labels table.new)) }
-    ensures listed { AreLabelsListed (L.labels table.old) (L.lists table.old)
-        → AreLabelsListed (L.labels table.new) (L.lists table.new) }
+    ensures onward { SearchesOn network.now (T.answers times.now) query.now.target
+        (L.labels table.old) (L.lists table.old) (L.had table.old)
+        (L.labels table.new) (L.lists table.new) (L.had table.new) }
 {
     network.keeps_limits();
     let target = query.target();
@@ -225,16 +202,10 @@ pub fn finish<T: TravelTimes>(
     table: Vec<u64>,
     todo: Open,
 ) -> Finished
-    requires problem { IsProblem network.now (T.classes times.now) query.now }
-    requires underway { IsUnderway network.now (T.answers times.now) query.now
-        table.items todo.waiting }
-    requires room { todo.nodes ≡ network.now.nodes }
-    ensures finished { IsFinished network.now (T.answers times.now) query.now
-        result.table.items result.todo }
-    ensures walks { result.todo.walks ≡ todo.walks }
-    ensures beyond { FallsBy network.now (T.answers times.now)
-        (limit query.now.target (label_of table.items))
-        (label_of table.items) (label_of result.table.items) }
+    requires { CanFinish network.now (T.answers times.now) (T.classes times.now) query.now
+        table.items todo }
+    ensures finishes { FinishesFrom network.now (T.answers times.now) query.now
+        table.items todo result.table.items result.todo }
     ensures least { (node : ℕ) → IsNode network.now.nodes node → IsAsked query.now node
         → IsLeast network.now (T.answers times.now) query.now.sources node
         (time_of (label_of result.table.items node)) }

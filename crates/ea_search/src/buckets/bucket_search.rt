@@ -1,15 +1,13 @@
 //! A search from the sources, nearly in the order of times.
-ghost use Rattle.std.specs.Prelude.{◌≡◌, ℕ, ◌≤◌, [], Contains, IfSome, IsTrue, length, replicate};
-ghost use Rattle.ea_base.specs.declared.limits.TheConstants.{HORIZON};
+ghost use Rattle.std.specs.Prelude.{◌≡◌, ℕ, ◌≤◌, [], Contains, IfSome, IsTrue};
 ghost use Rattle.ea_road.specs.Labels.{limit};
-ghost use Rattle.ea_road.specs.Queries.{IsProblem};
-ghost use Rattle.ea_road.specs.Roads.{IsNode, top_class};
-ghost use Rattle.ea_road.specs.declared.TheConstants.{NONE};
+ghost use Rattle.ea_road.specs.Roads.{IsNode};
 ghost use Rattle.ea_search.specs.Candidates.{Empties, TakesUp};
 ghost use Rattle.ea_search.specs.Frontiers.{HaveNone, WaitsAt};
 ghost use Rattle.ea_search.specs.Listings.{AreLabelsListed};
 ghost use Rattle.ea_search.specs.Notes.{AreHad};
 ghost use Rattle.ea_search.specs.Scans.{AwaitsScans, FallsBy};
+ghost use Rattle.ea_search.specs.Searching.{CanRelaxFrom, CanSearchOn, CanStartAnew, KeepsRoom, SearchesOn};
 ghost use Rattle.ea_search.specs.Underway.{bound_of};
 
 use crate::buckets::candidates::Candidates;
@@ -28,15 +26,13 @@ fn begin<T: TravelTimes, L: Table>(
     table: &mut L,
     frontier: &mut Frontier,
 )
-    requires problem { IsProblem network.now (T.classes times.now) query.now }
-    requires room { frontier.old.todo.nodes ≡ network.now.nodes }
-    requires none { (L.labels table.old) ≡ replicate network.now.nodes NONE }
+    requires { CanStartAnew network.now (T.classes times.now) query.now
+        (L.labels table.old) frontier.old.todo.nodes }
     ensures underway { AwaitsScans network.now (T.answers times.now) query.now
         (L.labels table.new) (L.met table.new)
         (WaitsAt frontier.new (bound_of (L.labels table.new))) }
     ensures adds { (v u k : ℕ) → L.had table.new v u k → L.had table.old v u k }
-    ensures nodes { frontier.new.todo.nodes ≡ frontier.old.todo.nodes }
-    ensures walks { frontier.new.todo.walks ≡ frontier.old.todo.walks }
+    ensures room { KeepsRoom frontier.old.todo frontier.new.todo }
     ensures listed { AreLabelsListed (L.labels table.new) (L.lists table.new) }
 {
     for source in query.sources() {
@@ -54,10 +50,7 @@ fn take_up<T: TravelTimes, L: Table>(
     entry: (u64, u32),
     candidates: &mut Candidates,
 ) -> bool
-    requires classes { top_class network.now.arcs ≤ T.classes times.now }
-    requires places { length (L.labels table.now) ≡ network.now.nodes }
-    requires last { last ≤ HORIZON }
-    requires node { IsNode network.now.nodes entry.1 }
+    requires { CanRelaxFrom network.now (T.classes times.now) (L.labels table.now) entry.1 last }
     ensures taken { IsTrue result → TakesUp network.now (T.answers times.now) (L.labels table.now) last entry
         candidates.old candidates.new }
     ensures crowded { (IsTrue result → ⊥) → (entry.0 ≡ bound_of (L.labels table.now) entry.1)
@@ -83,10 +76,7 @@ fn take_hand_up<T: TravelTimes, L: Table>(
     frontier: &mut Frontier,
     candidates: &mut Candidates,
 ) -> Option<u32>
-    requires classes { top_class network.now.arcs ≤ T.classes times.now }
-    requires places { length (L.labels table.now) ≡ network.now.nodes }
-    requires last { last ≤ HORIZON }
-    requires node { IsNode network.now.nodes first.1 }
+    requires can { CanRelaxFrom network.now (T.classes times.now) (L.labels table.now) first.1 last }
     requires room { frontier.old.todo.nodes ≡ network.now.nodes }
     requires none { candidates.old ≡ [] }
     ensures emptied { Empties network.now (T.answers times.now) (L.labels table.now) last first
@@ -112,23 +102,16 @@ fn exhaust<T: TravelTimes, L: Table>(
     table: &mut L,
     frontier: &mut Frontier,
 )
-    requires problem { IsProblem network.now (T.classes times.now) query.now }
-    requires room { frontier.old.todo.nodes ≡ network.now.nodes }
-    requires underway { AwaitsScans network.now (T.answers times.now) query.now
+    requires { CanSearchOn network.now (T.answers times.now) (T.classes times.now) query.now
         (L.labels table.old) (L.met table.old)
-        (WaitsAt frontier.old (bound_of (L.labels table.old))) }
+        (WaitsAt frontier.old (bound_of (L.labels table.old))) frontier.old.todo.nodes }
     ensures underway { AwaitsScans network.now (T.answers times.now) query.now
         (L.labels table.new) (L.met table.new) (Contains frontier.new.todo.waiting) }
-    ensures had { AreHad network.now (T.answers times.now) (L.labels table.old) (L.had table.old)
-        → AreHad network.now (T.answers times.now) (L.labels table.new) (L.had table.new) }
-    ensures nodes { frontier.new.todo.nodes ≡ frontier.old.todo.nodes }
-    ensures walks { frontier.new.todo.walks ≡ frontier.old.todo.walks }
-    ensures beyond { FallsBy network.now (T.answers times.now)
-        (limit query.now.target (bound_of (L.labels table.old)))
-        (bound_of (L.labels table.old)) (bound_of (L.labels table.new)) }
+    ensures onward { SearchesOn network.now (T.answers times.now) query.now.target
+        (L.labels table.old) (L.lists table.old) (L.had table.old)
+        (L.labels table.new) (L.lists table.new) (L.had table.new) }
+    ensures room { KeepsRoom frontier.old.todo frontier.new.todo }
     ensures none { HaveNone frontier.new.lists }
-    ensures listed { AreLabelsListed (L.labels table.old) (L.lists table.old)
-        → AreLabelsListed (L.labels table.new) (L.lists table.new) }
 {
     network.keeps_limits();
     let target = query.target();
@@ -161,15 +144,13 @@ pub fn search<T: TravelTimes, L: Table>(
     table: &mut L,
     frontier: &mut Frontier,
 )
-    requires problem { IsProblem network.now (T.classes times.now) query.now }
-    requires room { frontier.old.todo.nodes ≡ network.now.nodes }
-    requires none { (L.labels table.old) ≡ replicate network.now.nodes NONE }
+    requires can { CanStartAnew network.now (T.classes times.now) query.now
+        (L.labels table.old) frontier.old.todo.nodes }
     requires had { (v u k : ℕ) → L.had table.old v u k → ⊥ }
     ensures underway { AwaitsScans network.now (T.answers times.now) query.now
         (L.labels table.new) (L.met table.new) (Contains frontier.new.todo.waiting) }
     ensures had { AreHad network.now (T.answers times.now) (L.labels table.new) (L.had table.new) }
-    ensures nodes { frontier.new.todo.nodes ≡ frontier.old.todo.nodes }
-    ensures walks { frontier.new.todo.walks ≡ frontier.old.todo.walks }
+    ensures room { KeepsRoom frontier.old.todo frontier.new.todo }
     ensures none { HaveNone frontier.new.lists }
     ensures listed { AreLabelsListed (L.labels table.new) (L.lists table.new) }
 {
@@ -187,14 +168,12 @@ pub fn search_on<T: TravelTimes, L: Table>(
     table: &mut L,
     frontier: &mut Frontier,
 )
-    requires problem { IsProblem network.now (T.classes times.now) query.now }
-    requires room { frontier.old.todo.nodes ≡ network.now.nodes }
-    requires underway { AwaitsScans network.now (T.answers times.now) query.now
-        (L.labels table.old) (L.met table.old) (Contains frontier.old.todo.waiting) }
+    requires { CanSearchOn network.now (T.answers times.now) (T.classes times.now) query.now
+        (L.labels table.old) (L.met table.old)
+        (Contains frontier.old.todo.waiting) frontier.old.todo.nodes }
     ensures underway { AwaitsScans network.now (T.answers times.now) query.now
         (L.labels table.new) (L.met table.new) (Contains frontier.new.todo.waiting) }
-    ensures nodes { frontier.new.todo.nodes ≡ frontier.old.todo.nodes }
-    ensures walks { frontier.new.todo.walks ≡ frontier.old.todo.walks }
+    ensures room { KeepsRoom frontier.old.todo frontier.new.todo }
     ensures beyond { FallsBy network.now (T.answers times.now)
         (limit query.now.target (bound_of (L.labels table.old)))
         (bound_of (L.labels table.old)) (bound_of (L.labels table.new)) }

@@ -1,11 +1,10 @@
 //! Candidates: arrivals of several scans, gathered before any is offered.
-ghost use Rattle.std.specs.Prelude.{◌≡◌, ◌+◌, ◌<◌, ◌≤◌, [], ◌∷◌, ◌++◌, length, sum, Contains, IsTrue};
-ghost use Rattle.ea_base.specs.declared.limits.TheConstants.{HORIZON};
-ghost use Rattle.ea_road.specs.Roads.{IsArc, IsNode, leaving, top_class};
+ghost use Rattle.std.specs.Prelude.{◌≡◌, ◌+◌, ◌<◌, ◌≤◌, [], ◌∷◌, ◌++◌, length, Contains, IsTrue};
+ghost use Rattle.ea_road.specs.Roads.{leaving};
 ghost use Rattle.ea_search.specs.Candidates.{Gathered, Offered};
 ghost use Rattle.ea_search.specs.declared.buckets.candidates.Candidate.{Candidate};
-ghost use Rattle.ea_search.specs.Listings.{AreLabelsListed};
 ghost use Rattle.ea_search.specs.Scans.{number_at};
+ghost use Rattle.ea_search.specs.Searching.{CanBeOffered, CanRelax, CanRelaxFrom, KeepsSearch};
 ghost use Rattle.ea_search.specs.Underway.{bound_of};
 
 use crate::finishing_pass::lower;
@@ -90,11 +89,7 @@ impl Candidates {
         arc: Arc,
         departure: u64,
     )
-        requires arc { IsArc network.now (number_at network.now arc.tail place) arc }
-        requires placed { place < length (leaving network.now arc.tail) }
-        requires departure { departure ≤ HORIZON }
-        requires classes { top_class network.now.arcs ≤ T.classes times.now }
-        requires places { length (L.labels table.now) ≡ network.now.nodes }
+        requires can { CanRelax network.now (T.classes times.now) (L.labels table.now) place arc departure }
         requires room { length self.old < 128 }
         ensures gathered { Gathered network.now (T.answers times.now) arc.tail departure
             (number_at network.now arc.tail place ∷ []) (L.labels table.now) self.old self.new }
@@ -130,10 +125,7 @@ impl Candidates {
         node: u32,
         departure: u64,
     ) -> bool
-        requires node { IsNode network.now.nodes node }
-        requires departure { departure ≤ HORIZON }
-        requires classes { top_class network.now.arcs ≤ T.classes times.now }
-        requires places { length (L.labels table.now) ≡ network.now.nodes }
+        requires { CanRelaxFrom network.now (T.classes times.now) (L.labels table.now) node departure }
         ensures gathered { IsTrue result → Gathered network.now (T.answers times.now) node
             departure (leaving network.now node) (L.labels table.now) self.old self.new }
         ensures crowded { (IsTrue result → ⊥) → self.new ≡ self.old }
@@ -159,18 +151,16 @@ impl Candidates {
     /// Offers each candidate to its node: if the node's label is above it, the label falls and the node is
     /// opened. No candidate is left.
     pub fn offer<L: Table, W: Opens>(&mut self, table: &mut L, todo: &mut W)
-        requires nodes { (c : Candidate) → Contains self.old c → IsNode (W.room todo.old).nodes c.node }
-        requires in_time { (c : Candidate) → Contains self.old c → c.time ≤ HORIZON }
-        requires places { length (L.labels table.old) ≡ (W.room todo.old).nodes }
+        requires { (c : Candidate) → Contains self.old c
+            → CanBeOffered (W.room todo.old).nodes (L.labels table.old) c.node c.time }
         ensures none { self.new ≡ [] }
         ensures offered { Offered self.old (L.labels table.old)
             (W.waits todo.old (bound_of (L.labels table.old))) (L.met table.old) (L.had table.old)
             (L.labels table.new)
             (W.waits todo.new (bound_of (L.labels table.new))) (L.met table.new) (L.had table.new) }
-        ensures spent { sum (L.labels table.new) + W.size todo.new ≤ sum (L.labels table.old) + W.size todo.old }
-        ensures room { W.room todo.new ≡ W.room todo.old }
-        ensures listed { AreLabelsListed (L.labels table.old) (L.lists table.old)
-            → AreLabelsListed (L.labels table.new) (L.lists table.new) }
+        ensures keeps { KeepsSearch
+            (L.labels table.old) (L.lists table.old) (W.room todo.old) (W.size todo.old)
+            (L.labels table.new) (L.lists table.new) (W.room todo.new) (W.size todo.new) }
     {
         for place in 0..self.count {
             let c = self.list[place];

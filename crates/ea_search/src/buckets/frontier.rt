@@ -1,6 +1,8 @@
 //! The frontier: open nodes by their labels, nearly the least first.
-ghost use Rattle.std.specs.Prelude.{◌≡◌, ℕ, ◌+◌, ◌<◌, ◌≤◌, ◌∷◌, length, map, IfOk, IfSome, MatchOption};
-ghost use Rattle.ea_search.specs.Frontiers.{AreEntries, HaveNone, HasNone, KeepsWaiting, Puts, Takes, WaitsAt};
+ghost use Rattle.std.specs.Prelude.{◌≡◌, ℕ, ◌+◌, ◌<◌, ◌≤◌, length, map, IfOk, MatchOption};
+ghost use Rattle.ea_search.specs.Frontiers.{AreEntries, HaveNone, HasNone, KeepsWaiting, Puts, Takes};
+ghost use Rattle.ea_search.specs.Frontiers.{TakesWaiting, WaitsAt};
+ghost use Rattle.ea_search.specs.Searching.{KeepsRoom};
 ghost use Rattle.ea_search.specs.Underway.{bound_of};
 
 use crate::labels::table::Table;
@@ -272,12 +274,7 @@ impl Frontier {
 
     /// Takes the node that has waited longest in `todo`.
     fn take_waiting(&mut self) -> Option<u32>
-        ensures lists { self.new.lists ≡ self.old.lists }
-        ensures taken { MatchOption result (self.new ≡ self.old)
-            (λ node. self.old.todo.waiting ≡ node ∷ self.new.todo.waiting) }
-        ensures room { (self.new.todo.nodes ≡ self.old.todo.nodes)
-            × (self.new.todo.walks ≡ self.old.todo.walks) }
-        ensures node { IfSome result (λ node. (0 < node) × (node ≤ self.old.todo.nodes)) }
+        ensures { MatchOption result (self.new ≡ self.old) (λ node. TakesWaiting node self.old self.new) }
     {
         self.todo.take()
     }
@@ -287,8 +284,7 @@ impl Frontier {
         requires { length (L.labels table.now) ≡ self.old.todo.nodes }
         ensures rest { (node : ℕ) → WaitsAt self.old (bound_of (L.labels table.now)) node
             → WaitsAt self.new (bound_of (L.labels table.now)) node }
-        ensures room { (self.new.todo.nodes ≡ self.old.todo.nodes)
-            × (self.new.todo.walks ≡ self.old.todo.walks) }
+        ensures room { KeepsRoom self.old.todo self.new.todo }
     {
         'moving: for _ in 0..self.todo.len() {
             let Some(node) = self.take_waiting() else {

@@ -1,10 +1,7 @@
 //! The finishing pass in nearly the order of labels.
 ghost use Rattle.std.specs.Prelude.{◌≡◌, length, map};
-ghost use Rattle.ea_road.specs.Labels.{label_of, limit};
-ghost use Rattle.ea_road.specs.Queries.{IsProblem};
 ghost use Rattle.ea_search.specs.Frontiers.{HaveNone};
-ghost use Rattle.ea_search.specs.Scans.{FallsBy};
-ghost use Rattle.ea_search.specs.Underway.{IsFinished, IsUnderway};
+ghost use Rattle.ea_search.specs.Searching.{CanFinish, FinishesFrom};
 
 use crate::buckets::bucket_search::search_on;
 use crate::buckets::frontier::{Frontier, empty_lists};
@@ -24,17 +21,11 @@ fn finish_on<T: TravelTimes>(
     table: Vec<u64>,
     todo: Open,
 ) -> Finished
-    requires problem { IsProblem network.now (T.classes times.now) query.now }
-    requires underway { IsUnderway network.now (T.answers times.now) query.now
-        table.items todo.waiting }
-    requires room { todo.nodes ≡ network.now.nodes }
+    requires can { CanFinish network.now (T.answers times.now) (T.classes times.now) query.now
+        table.items todo }
     requires lists { (length lists.items ≡ 66) × HaveNone (map (λ l. l.items) lists.items) }
-    ensures finished { IsFinished network.now (T.answers times.now) query.now
-        result.table.items result.todo }
-    ensures walks { result.todo.walks ≡ todo.walks }
-    ensures beyond { FallsBy network.now (T.answers times.now)
-        (limit query.now.target (label_of table.items))
-        (label_of table.items) (label_of result.table.items) }
+    ensures { FinishesFrom network.now (T.answers times.now) query.now
+        table.items todo result.table.items result.todo }
 {
     network.keeps_limits();
     let mut frontier = Frontier::over(lists, todo, network.mean_weight());
@@ -55,16 +46,10 @@ pub fn finish_in_order<T: TravelTimes>(
     table: Vec<u64>,
     todo: Open,
 ) -> Finished
-    requires problem { IsProblem network.now (T.classes times.now) query.now }
-    requires underway { IsUnderway network.now (T.answers times.now) query.now
-        table.items todo.waiting }
-    requires room { todo.nodes ≡ network.now.nodes }
-    ensures finished { IsFinished network.now (T.answers times.now) query.now
-        result.table.items result.todo }
-    ensures walks { result.todo.walks ≡ todo.walks }
-    ensures beyond { FallsBy network.now (T.answers times.now)
-        (limit query.now.target (label_of table.items))
-        (label_of table.items) (label_of result.table.items) }
+    requires { CanFinish network.now (T.answers times.now) (T.classes times.now) query.now
+        table.items todo }
+    ensures { FinishesFrom network.now (T.answers times.now) query.now
+        table.items todo result.table.items result.todo }
 {
     match empty_lists(alloc) {
         Ok(lists) => finish_on(network, times, query, lists, table, todo),

@@ -1,8 +1,9 @@
 //! The nodes that a search reached, so that the next search resets only these.
-ghost use Rattle.std.specs.Prelude.{◌≡◌, ◌≢◌, ℕ, length, replicate};
+ghost use Rattle.std.specs.Prelude.{◌≡◌, ℕ, length, replicate};
 ghost use Rattle.ea_road.specs.declared.TheConstants.{NONE};
 ghost use Rattle.ea_search.specs.Links.{link, no_link};
-ghost use Rattle.ea_search.specs.Listings.{AreLabelsListed, AreLinksListed, IsListed, KeepsListed, nothing};
+ghost use Rattle.ea_search.specs.Listings.{AreLabelsListed, AreLinksListed, IsListed, KeepsListed};
+ghost use Rattle.ea_search.specs.Listings.{ResetsAt, nothing};
 ghost use Rattle.ea_search.specs.Underway.{bound_of};
 
 use crate::link::{Link, NO_LINK};
@@ -32,8 +33,7 @@ impl Model for Listed {
 /// Resets the label of a node.
 fn take_label(table: &mut [u64], node: u32)
     ensures places { length table.new ≡ length table.old }
-    ensures taken { bound_of table.new node ≡ NONE }
-    ensures others { (v : ℕ) → v ≢ node → bound_of table.new v ≡ bound_of table.old v }
+    ensures resets { ResetsAt node NONE (bound_of table.old) (bound_of table.new) }
 {
     if 0 < node {
         let place = node as usize - 1;
@@ -46,8 +46,7 @@ fn take_label(table: &mut [u64], node: u32)
 /// Resets the link of a node.
 fn take_link(links: &mut [Link], node: u32)
     ensures places { length links.new ≡ length links.old }
-    ensures taken { link links.new node ≡ no_link }
-    ensures others { (v : ℕ) → v ≢ node → link links.new v ≡ link links.old v }
+    ensures resets { ResetsAt node no_link (link links.old) (link links.new) }
 {
     if 0 < node {
         let place = node as usize - 1;

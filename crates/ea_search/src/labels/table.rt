@@ -1,8 +1,8 @@
 //! The labels of nodes during a search, and what is recorded beside them.
-ghost use Rattle.std.specs.Prelude.{◌≡◌, ◌≢◌, ℕ, ◌-◌, ◌<◌, ◌≤◌, ◌⊎◌, List, length, min, set};
+ghost use Rattle.std.specs.Prelude.{◌≡◌, ℕ, ◌<◌, ◌≤◌, List, length, min};
 ghost use Rattle.ea_base.specs.declared.limits.TheConstants.{HORIZON};
 ghost use Rattle.ea_search.specs.Listings.{KeepsListed};
-ghost use Rattle.ea_search.specs.Scans.{IsArcOf};
+ghost use Rattle.ea_search.specs.Tables.{CanFallTo, NotesFall, NotesMeeting, NotesStart, SetsLabel};
 ghost use Rattle.ea_search.specs.Underway.{bound_of};
 
 use crate::labels::reached_nodes::Listed;
@@ -39,34 +39,25 @@ pub trait Table {
 
     /// Lowers the label of a source's node to a departure.
     fn start(&mut self, node: u32, time: u64)
-        requires node { (0 < node) × (node ≤ length (labels self.old)) }
-        requires time { time ≤ HORIZON }
-        ensures labels { labels self.new ≡ set (labels self.old) (node - 1) time }
-        ensures there { lists self.new node }
-        ensures kept { KeepsListed (lists self.old) (lists self.new) }
-        ensures still { (v u k : ℕ) → v ≢ node → u ≢ node → met self.old v u k → met self.new v u k }
-        ensures adds { (v u k : ℕ) → had self.new v u k → had self.old v u k };
+        requires { CanFallTo (labels self.old) node time }
+        ensures sets { SetsLabel node time (labels self.old) (lists self.old)
+            (labels self.new) (lists self.new) }
+        ensures notes { NotesStart node (met self.old) (had self.old) (met self.new) (had self.new) };
 
     /// Lowers the label of a node to a time, by the arc at this place among those that leave `from`.
     fn fall(&mut self, node: u32, time: u64, from: u32, place: usize)
-        requires node { (0 < node) × (node ≤ length (labels self.old)) }
-        requires time { time ≤ HORIZON }
-        ensures labels { labels self.new ≡ set (labels self.old) (node - 1) time }
-        ensures there { lists self.new node }
-        ensures kept { KeepsListed (lists self.old) (lists self.new) }
-        ensures met { met self.new node from place }
-        ensures still { (v u k : ℕ) → v ≢ node → u ≢ node → met self.old v u k → met self.new v u k }
-        ensures adds { (v u k : ℕ) → had self.new v u k
-            → IsArcOf node from place v u k ⊎ ((v ≢ node) × had self.old v u k) };
+        requires { CanFallTo (labels self.old) node time }
+        ensures sets { SetsLabel node time (labels self.old) (lists self.old)
+            (labels self.new) (lists self.new) }
+        ensures notes { NotesFall node from place (met self.old) (had self.old)
+            (met self.new) (had self.new) };
 
     /// Meets the label of a node, by the arc at this place among those that leave `from`.
     fn meet(&mut self, node: u32, from: u32, place: usize)
         ensures labels { labels self.new ≡ labels self.old }
         ensures kept { KeepsListed (lists self.old) (lists self.new) }
-        ensures met { met self.new node from place }
-        ensures still { (v u k : ℕ) → met self.old v u k → met self.new v u k }
-        ensures adds { (v u k : ℕ) → had self.new v u k
-            → IsArcOf node from place v u k ⊎ had self.old v u k };
+        ensures notes { NotesMeeting node from place (met self.old) (had self.old)
+            (met self.new) (had self.new) };
 }
 
 /// The label of a node in a list; 0 outside the list.

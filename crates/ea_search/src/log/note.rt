@@ -1,6 +1,6 @@
 //! The notes of a search for walks: the arcs by which labels fell or were met.
-ghost use Rattle.std.specs.Prelude.{◌≡◌, ◌<◌};
-ghost use Rattle.ea_search.specs.Notes.{note_in};
+ghost use Rattle.std.specs.Prelude.{◌≡◌};
+ghost use Rattle.ea_search.specs.Notes.{FitsWord, note_in};
 
 /// An arc by which a node's label fell, or was met.
 #[derive(Clone, Copy, Drop)]
@@ -28,9 +28,7 @@ pub const PLACES: u64 = 2_048;
 /// A note packed into one word, to write as little as possible.
 #[inline(always)]
 pub fn word_of(note: Note) -> u64
-    requires node { note.node < NODES }
-    requires from { note.from < NODES }
-    requires place { note.place < PLACES }
+    requires { FitsWord note }
     ensures { note_in result ≡ note }
 {
     let ends = u64::from(note.node) + NODES * u64::from(note.from);

@@ -1,5 +1,6 @@
-use Rattle.std.proofs.Common.{sym, ◌∙◌}
+use Rattle.std.proofs.Common.{ap, sym, ◌∙◌}
 use Rattle.std.proofs.lemmas.List.{length-map}
+use Rattle.ea_search.specs.Frontiers.{Frontage}
 use Rattle.ea_paths.proofs.search.find.Goals as goal
 
 pub over-frontier-requires-clause-length : goal.over-frontier-requires-clause-length
@@ -8,8 +9,12 @@ over-frontier-requires-clause-length g c = sym (length-map _ _) ∙ c.requires.b
 pub over-frontier-requires-clause-entries : goal.over-frontier-requires-clause-entries
 over-frontier-requires-clause-entries g c = λ entry is. absurd (c.requires.begins.emptied.1 entry is)
 
-pub finish_noted-todo-requires-clause-underway : goal.finish_noted-todo-requires-clause-underway
-finish_noted-todo-requires-clause-underway g c = rw c.into_parts-lists.ensures.todo c.search.ensures.underway
+pub finish_noted-todo-requires : goal.finish_noted-todo-requires
+finish_noted-todo-requires g c = rw c.into_parts-lists.ensures.todo (record {
+  problem = c.requires.problem;
+  room = c.search.ensures.room.nodes ∙ ap (λ (f : Frontage). f.todo.nodes) c.over-frontier.ensures ∙ c.requires.begins.room;
+  underway = c.search.ensures.underway;
+})
 
 pub returns-clause-ended : goal.returns-clause-ended
 returns-clause-ended g c =
@@ -17,7 +22,7 @@ returns-clause-ended g c =
     record {
       finished = finish.finished;
       met = finish.met;
-      had = finish.had c.search.ensures.had;
-      listed = finish.listed c.search.ensures.listed;
+      had = finish.onward.are_had c.search.ensures.had;
+      listed = finish.onward.listed c.search.ensures.listed;
       emptied = (rw length-map c.into_parts-lists.ensures.length, rw c.into_parts-lists.ensures.lists c.search.ensures.none);
     }

@@ -7,17 +7,16 @@ use Rattle.ea_search.specs.Worklist.{Room}
 use Rattle.ea_search.proofs.Worklists.{Contains-cons_cases}
 use Rattle.ea_search.proofs.Boundary.{same_limit, fixed_of}
 use Rattle.ea_search.proofs.Entries.{AwaitsScansFrom-scanned, AwaitsScansFrom-unlabelled, AwaitsScansFrom-above}
-use Rattle.ea_search.proofs.Falls.{FallsBy-same, FallsBy-then, FallsBy-scanned, FallsBy-labels, limit_falls}
+use Rattle.ea_search.proofs.Falls.{FallsBy-scanned}
+use Rattle.ea_search.proofs.Steps.{SearchesOn-same, SearchesOn-then}
 use Rattle.ea_search.proofs.finishing_pass.finish_noted.Goals as goal
 
 pub loop-node-init : goal.loop-node-init
 loop-node-init g c = record {
   underway = c.requires.underway;
-  falls = FallsBy-same _ _ _ _;
+  onward = SearchesOn-same _ _ _ _ _ _;
   room = c.requires.room;
   walks = search rules;
-  had = λ first. first;
-  listed = λ first. first;
 }
 
 pub loop-node-preserved-then-departure-last :
@@ -34,11 +33,9 @@ loop-node-preserved-then-departure-last g c =
     let scanned = c.scan.ensures.scanned in
     record {
       underway = (AwaitsScansFrom-scanned _ _ _ _ node _ _ _ _ _ _ _ _ _ before (λ v there. Contains-cons_cases node v _ there) at_label (omega arith) (λ n arc is_arc tail. leaving_has c.args.network.now node n arc is_arc tail) scanned);
-      falls = (FallsBy-then _ _ _ _ _ _ _ c.loop-node.invariant.falls (FallsBy-scanned _ _ _ _ _ _ _ _ _ _ _ scanned) (omega (arith, limited, c.min-last.ensures, c.if-departure-last.true, limit_falls _ _ _ _ _ _ c.loop-node.invariant.falls c.requires.problem.target)));
-      room = ap (λ (r : Room). r.nodes) c.scan.ensures.room ∙ c.in-Some.ensures.room.0 ∙ room;
-      walks = ap (λ (r : Room). r.walks) c.scan.ensures.room ∙ c.in-Some.ensures.room.1 ∙ c.loop-node.invariant.walks;
-      had = λ first. c.scan.ensures.had (omega (arith, at_label)) (c.loop-node.invariant.had first);
-      listed = (λ first. c.scan.ensures.listed (c.loop-node.invariant.listed first));
+      onward = SearchesOn-then _ _ _ _ _ _ _ _ _ _ _ _ c.loop-node.invariant.onward c.requires.problem.target (FallsBy-scanned _ _ _ _ _ _ _ _ _ _ _ scanned) (omega (arith, limited, c.min-last.ensures, c.if-departure-last.true)) c.scan.ensures.keeps.listed (c.scan.ensures.had (omega (arith, at_label)));
+      room = ap (λ (r : Room). r.nodes) c.scan.ensures.keeps.same_room ∙ c.in-Some.ensures.room.0 ∙ room;
+      walks = ap (λ (r : Room). r.walks) c.scan.ensures.keeps.same_room ∙ c.in-Some.ensures.room.1 ∙ c.loop-node.invariant.walks;
     }
 
 pub loop-node-preserved : goal.loop-node-preserved
@@ -56,11 +53,9 @@ loop-node-preserved g c =
         | inl above ↦ AwaitsScansFrom-above _ _ _ _ node table _ _ _ before (λ v there. Contains-cons_cases node v _ there) above
         | inr below ↦ AwaitsScansFrom-unlabelled _ _ _ _ node table _ _ _ before (λ v there. Contains-cons_cases node v _ there) (omega (arith, limited, c.min-last.ensures))
       ];
-      falls = c.loop-node.invariant.falls;
+      onward = c.loop-node.invariant.onward;
       room = c.in-Some.ensures.room.0 ∙ room;
       walks = c.in-Some.ensures.room.1 ∙ c.loop-node.invariant.walks;
-      had = c.loop-node.invariant.had;
-      listed = c.loop-node.invariant.listed;
     }
 
 pub returns-clause-finished : goal.returns-clause-finished
@@ -75,10 +70,3 @@ returns-clause-finished g c =
 
 pub returns-clause-met : goal.returns-clause-met
 returns-clause-met g c = rw c.in_default.ensures.taken.0 at c.loop-node.invariant.underway
-
-pub returns-clause-beyond : goal.returns-clause-beyond
-returns-clause-beyond g c =
-    let under = c.loop-node.invariant.underway in
-    let before = c.requires.underway.places in
-    rw (← same_limit c.args.network.now (g.T.TravelTimes.answers c.args.times.now) _ c.args.query.now c.keeps_limits.ensures c.requires.problem (g.L.Table.labels c.args.table.now) before)
-    (FallsBy-labels _ _ _ _ _ before under.places c.loop-node.invariant.falls)

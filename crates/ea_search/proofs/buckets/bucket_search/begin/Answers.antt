@@ -1,12 +1,12 @@
-use Rattle.std.proofs.Common.{◌<◌, ℕ, List, length, get_or, ◌∙◌, subst, ap, arith, rules}
+use Rattle.std.proofs.Common.{◌<◌, ℕ, List, length, get_or, ◌∙◌, subst, ap, arith}
 use Rattle.std.specs.List.{IsAmong}
 use Rattle.std.proofs.lemmas.List.{take_more, take_all, get_or_default}
 use Rattle.ea_road.specs.declared.source.Source.{Source}
 use Rattle.ea_search.specs.Frontiers.{WaitsAt}
 use Rattle.ea_search.specs.Underway.{bound_of}
-use Rattle.ea_search.specs.Worklist.{Room}
 use Rattle.ea_search.specs.Scans.{AwaitsScansFrom}
 use Rattle.ea_search.proofs.Entries.{bound_of-none, AwaitsScansFrom-none, AwaitsScansFrom-source}
+use Rattle.ea_search.proofs.Steps.{KeepsRoom-by, KeepsRoom-same}
 use Rattle.ea_search.proofs.buckets.bucket_search.begin.Goals as goal
 
 abbrev none : Source
@@ -19,22 +19,20 @@ pub loop-source-init : goal.loop-source-init
 loop-source-init g c = record {
   underway = rw c.requires.none (AwaitsScansFrom-none _ _ _ _ _);
   adds = λ v u k has. has;
-  nodes = search rules;
-  walks = search rules;
+  room = KeepsRoom-same _;
   listed = λ v has. absurd (has (ap (λ xs. bound_of xs v) c.requires.none ∙ bound_of-none c.args.network.now.nodes v));
 }
 
-pub start-requires-clause-node : goal.start-requires-clause-node
-start-requires-clause-node g c =
+pub start-requires : goal.start-requires
+start-requires g c =
     let within = rw c.sources-source-items.ensures.sources at c.loop-source-test.true in
-    let node = c.requires.problem.sources _ (among_at c.args.query.now.sources c.loop-source.source-index within) in
-    rw c.sources-source-items.ensures.sources (node.from_one, omega (arith, node.to_last, c.loop-source.invariant.nodes, c.requires.room))
-
-pub start-requires-clause-in_time : goal.start-requires-clause-in_time
-start-requires-clause-in_time g c =
-    let within = rw c.sources-source-items.ensures.sources at c.loop-source-test.true in
-    let departs = c.requires.problem.departures _ (among_at c.args.query.now.sources c.loop-source.source-index within) in
-    rw c.sources-source-items.ensures.sources departs
+    let among = among_at c.args.query.now.sources c.loop-source.source-index within in
+    let node = c.requires.problem.sources _ among in
+    let places = c.loop-source.invariant.underway.places in
+    rw c.sources-source-items.ensures.sources (record {
+      can_fall = record { is_node = (node.from_one, omega (arith, node.to_last, places)); in_time = c.requires.problem.departures _ among };
+      places = omega (arith, places, c.loop-source.invariant.room.nodes, c.requires.room);
+    })
 
 pub loop-source-preserved : goal.loop-source-preserved
 loop-source-preserved g c =
@@ -46,10 +44,9 @@ loop-source-preserved g c =
     let under = AwaitsScansFrom-source _ _ _ _ (get_or sources at none) _ _ _ _ _ _ (c.requires.problem.departures _ among) c.loop-source.invariant.underway lowers c.start.ensures.still in
     record {
       underway = rw (take_more sources at none within) under;
-      nodes = ap (λ (r : Room). r.nodes) c.start.ensures.room ∙ c.loop-source.invariant.nodes;
-      walks = ap (λ (r : Room). r.walks) c.start.ensures.room ∙ c.loop-source.invariant.walks;
+      room = KeepsRoom-by _ _ _ c.loop-source.invariant.room c.start.ensures.keeps.same_room;
       adds = λ v u k has. c.loop-source.invariant.adds v u k (c.start.ensures.adds v u k has);
-      listed = c.start.ensures.listed c.loop-source.invariant.listed;
+      listed = c.start.ensures.keeps.listed c.loop-source.invariant.listed;
     }
 
 pub returns-clause-underway : goal.returns-clause-underway

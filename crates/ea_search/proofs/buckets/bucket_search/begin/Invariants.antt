@@ -1,7 +1,8 @@
-use Rattle.std.proofs.Common.{◌≡◌, ℕ, take}
+use Rattle.std.proofs.Common.{ℕ, take}
 use Rattle.ea_search.specs.Frontiers.{WaitsAt}
 use Rattle.ea_search.specs.Listings.{AreLabelsListed}
 use Rattle.ea_search.specs.Scans.{AwaitsScansFrom}
+use Rattle.ea_search.specs.Searching.{KeepsRoom}
 use Rattle.ea_search.specs.Underway.{bound_of}
 use Rattle.ea_search.proofs.buckets.bucket_search.begin.Given as goal
 
@@ -10,7 +11,6 @@ abbrev pub invariant-loop-source : goal.invariant-loop-source
 invariant-loop-source g l = record {
   underway : AwaitsScansFrom l.network (g.T.TravelTimes.answers l.times) (take l.source-index l.query.sources) l.query.target (g.L.Table.labels l.table) (g.L.Table.met l.table) (WaitsAt l.frontier (bound_of (g.L.Table.labels l.table)));
   adds : (v u k : ℕ) → g.L.Table.had l.table v u k → g.L.Table.had l.initial.table v u k;
-  nodes : l.frontier.todo.nodes ≡ l.initial.frontier.todo.nodes;
-  walks : l.frontier.todo.walks ≡ l.initial.frontier.todo.walks;
+  room : KeepsRoom l.initial.frontier.todo l.frontier.todo;
   listed : AreLabelsListed (g.L.Table.labels l.table) (g.L.Table.lists l.table);
 }

@@ -1,41 +1,45 @@
-use Rattle.std.proofs.Common.{◌≡◌, ◌∙◌, ℕ, Some, refl, sym, ap, inl, inr, arith}
+use Rattle.std.proofs.Common.{◌≡◌, ◌∙◌, ℕ, Some, sym, inl, inr, arith}
 use Rattle.ea_road.proofs.ByTail.{leaving_has}
 use Rattle.ea_search.specs.Underway.{bound_of}
-use Rattle.ea_search.specs.Worklist.{Room}
 use Rattle.ea_search.proofs.Boundary.{same_limit}
 use Rattle.ea_search.proofs.Entries.{AwaitsScansFrom-moved, AwaitsScansFrom-scanned}
-use Rattle.ea_search.proofs.Falls.{FallsBy-same, FallsBy-then, FallsBy-scanned, limit_falls}
+use Rattle.ea_search.proofs.Falls.{FallsBy-then, FallsBy-scanned}
 use Rattle.ea_search.proofs.Gatherings.{AreHad-offered, AwaitsScansFrom-hand, FallsBy-offered, had_is_node}
+use Rattle.ea_search.proofs.Steps.{KeepsRoom-by, KeepsRoom-same, SearchesOn-same, SearchesOn-then}
 use Rattle.ea_search.proofs.buckets.bucket_search.exhaust.Goals as goal
 
 pub loop-entry-init : goal.loop-entry-init
 loop-entry-init g c = record {
   underway = c.requires.underway;
-  falls = FallsBy-same _ _ _ _;
-  had = λ first. first;
-  nodes = refl;
-  walks = refl;
-  listed = λ first. first;
+  onward = SearchesOn-same _ _ _ _ _ _;
+  room = KeepsRoom-same _;
   none = c.none-candidates.ensures;
 }
 
-pub offer-requires-clause-nodes : goal.offer-requires-clause-nodes
-offer-requires-clause-nodes g c candidate there =
+pub offer-requires : goal.offer-requires
+offer-requires g c candidate there =
     let emptied = c.take_hand_up-crowded.ensures.emptied in
     let taken = c.in-Some.ensures in
-    let is_node = had_is_node c.args.network.now _ (g.L.Table.labels c.loop-entry.table) c.min-last.result candidate c.keeps_limits.ensures (emptied.had candidate there) in
-    record { from_one = is_node.from_one; to_last = omega (arith, is_node.to_last, emptied.nodes, taken.nodes, c.loop-entry.invariant.nodes, c.requires.room) }
+    let had = emptied.had candidate there in
+    let is_node = had_is_node c.args.network.now _ (g.L.Table.labels c.loop-entry.table) c.min-last.result candidate c.keeps_limits.ensures had in
+    let places = c.loop-entry.invariant.underway.places in
+    record {
+      can_fall = record { is_node = (is_node.from_one, omega (arith, is_node.to_last, places)); in_time = had.step.in_time };
+      places = omega (arith, places, emptied.nodes, taken.nodes, c.loop-entry.invariant.room.nodes, c.requires.room);
+    }
 
-pub offer-requires-clause-in_time : goal.offer-requires-clause-in_time
-offer-requires-clause-in_time g c candidate there = (c.take_hand_up-crowded.ensures.emptied.had candidate there).step.in_time
-
-pub scan-requires-clause-departure : goal.scan-requires-clause-departure
-scan-requires-clause-departure g c =
+pub scan-requires-clause-can : goal.scan-requires-clause-can
+scan-requires-clause-can g c =
     let node = c.in-Some-crowded.node in
     let crowded = c.in-Some-crowded.ensures.crowded in
     let offered = c.offer.ensures.offered in
     let read = c.label-time.ensures in
-    omega (arith, read, offered.lower node, crowded.1, c.min-last.ensures)
+    record {
+      is_node = crowded.0;
+      in_time = omega (arith, read, offered.lower node, crowded.1, c.min-last.ensures);
+      classed = c.requires.problem.classed;
+      places = offered.places ∙ c.loop-entry.invariant.underway.places;
+    }
 
 pub loop-entry-preserved : goal.loop-entry-preserved
 loop-entry-preserved g c =
@@ -52,11 +56,8 @@ loop-entry-preserved g c =
             | inl held ↦ absurd (c.in_default-crowded.not-Some v held)
             | inr still ↦ still
           ]);
-      falls = FallsBy-then _ _ _ _ _ _ _ c.loop-entry.invariant.falls fell (omega (arith, limited, c.min-last.ensures, limit_falls _ _ _ _ _ _ c.loop-entry.invariant.falls c.requires.problem.target));
-      nodes = ap (λ (r : Room). r.nodes) c.offer.ensures.room ∙ emptied.nodes ∙ taken.nodes ∙ c.loop-entry.invariant.nodes;
-      walks = ap (λ (r : Room). r.walks) c.offer.ensures.room ∙ emptied.walks ∙ taken.walks ∙ c.loop-entry.invariant.walks;
-      had = λ first. AreHad-offered c.args.network.now _ table c.min-last.result _ _ _ _ _ _ _ _ (omega (arith, c.min-last.ensures)) emptied.had offered (c.loop-entry.invariant.had first);
-      listed = λ first. c.offer.ensures.listed (c.loop-entry.invariant.listed first);
+      onward = SearchesOn-then _ _ _ _ _ _ _ _ _ _ _ _ c.loop-entry.invariant.onward c.requires.problem.target fell (omega (arith, limited, c.min-last.ensures)) c.offer.ensures.keeps.listed (AreHad-offered c.args.network.now _ table c.min-last.result _ _ _ _ _ _ _ _ (omega (arith, c.min-last.ensures)) emptied.had offered);
+      room = KeepsRoom-by _ c.take_hand_up-crowded.new.frontier.todo _ (record { nodes = emptied.nodes ∙ taken.nodes ∙ c.loop-entry.invariant.room.nodes; walks = emptied.walks ∙ taken.walks ∙ c.loop-entry.invariant.room.walks }) c.offer.ensures.keeps.same_room;
       none = c.offer.ensures.none;
     }
 
@@ -73,7 +74,7 @@ loop-entry-preserved-in-Some-crowded g c =
     let limited = rw (c.target-target.ensures.target, ← same_limit c.args.network.now (g.T.TravelTimes.answers c.args.times.now) _ c.args.query.now c.keeps_limits.ensures c.requires.problem table before.places) at c.latest.ensures in
     let fell = FallsBy-offered c.args.network.now _ table c.min-last.result _ _ _ _ _ _ _ _ emptied.had offered in
     let read = c.label-time.ensures in
-    let first = FallsBy-then _ _ _ _ _ _ _ c.loop-entry.invariant.falls fell (omega (arith, limited, c.min-last.ensures, limit_falls _ _ _ _ _ _ c.loop-entry.invariant.falls c.requires.problem.target)) in
+    let all_fell = FallsBy-then _ _ _ _ _ _ _ fell (FallsBy-scanned _ _ _ _ _ _ _ _ _ _ _ scanned) (omega (arith, read, offered.lower node, crowded.1)) in
     let hand = AwaitsScansFrom-hand c.args.network.now _ _ _ table c.min-last.result c.in-Some.entry _ _ _ _ _ _ _ _ _ _ _ (omega (arith, limited, c.min-last.ensures)) before taken emptied offered in
     record {
       underway = AwaitsScansFrom-scanned _ _ _ _ node _ _ _ _ _ _ _ _ _ hand
@@ -81,11 +82,10 @@ loop-entry-preserved-in-Some-crowded g c =
             | inl held ↦ inl (some_of (sym c.in-Some-crowded.is ∙ held))
             | inr still ↦ inr still
           ]) read (omega (arith, read, offered.lower node, crowded.1, c.min-last.ensures)) (λ n arc is_arc tail. leaving_has c.args.network.now node n arc is_arc tail) scanned;
-      falls = FallsBy-then _ _ _ _ _ _ _ first (FallsBy-scanned _ _ _ _ _ _ _ _ _ _ _ scanned) (omega (arith, limited, c.min-last.ensures, read, offered.lower node, crowded.1, limit_falls _ _ _ _ _ _ c.loop-entry.invariant.falls c.requires.problem.target));
-      nodes = ap (λ (r : Room). r.nodes) (c.scan.ensures.room ∙ c.offer.ensures.room) ∙ emptied.nodes ∙ taken.nodes ∙ c.loop-entry.invariant.nodes;
-      walks = ap (λ (r : Room). r.walks) (c.scan.ensures.room ∙ c.offer.ensures.room) ∙ emptied.walks ∙ taken.walks ∙ c.loop-entry.invariant.walks;
-      had = λ all. c.scan.ensures.had (omega (arith, read)) (AreHad-offered c.args.network.now _ table c.min-last.result _ _ _ _ _ _ _ _ (omega (arith, c.min-last.ensures)) emptied.had offered (c.loop-entry.invariant.had all));
-      listed = λ all. c.scan.ensures.listed (c.offer.ensures.listed (c.loop-entry.invariant.listed all));
+      onward = SearchesOn-then _ _ _ _ _ _ _ _ _ _ _ _ c.loop-entry.invariant.onward c.requires.problem.target all_fell (omega (arith, limited, c.min-last.ensures))
+          (λ all. c.scan.ensures.keeps.listed (c.offer.ensures.keeps.listed all))
+          (λ all. c.scan.ensures.had (omega (arith, read)) (AreHad-offered c.args.network.now _ table c.min-last.result _ _ _ _ _ _ _ _ (omega (arith, c.min-last.ensures)) emptied.had offered all));
+      room = KeepsRoom-by _ c.take_hand_up-crowded.new.frontier.todo _ (record { nodes = emptied.nodes ∙ taken.nodes ∙ c.loop-entry.invariant.room.nodes; walks = emptied.walks ∙ taken.walks ∙ c.loop-entry.invariant.room.walks }) (c.scan.ensures.keeps.same_room ∙ c.offer.ensures.keeps.same_room);
       none = c.offer.ensures.none;
     }
   where

@@ -17,7 +17,7 @@ loop-next-init g c = record {
   fewer = omega arith;
   nodes = refl;
   walks = refl;
-  is_node = c.requires.node;
+  is_node = c.requires.can.is_node;
 }
 
 pub loop-next-preserved : goal.loop-next-preserved
@@ -74,8 +74,13 @@ returns-then-not-take_up-clause-emptied g c =
       walks = inv.walks;
     }
 
-pub take_up-requires-clause-node : goal.take_up-requires-clause-node
-take_up-requires-clause-node g c = subst (λ next. IfSome next (λ entry. IsNode c.args.network.now.nodes entry.1)) c.in-Some.is c.loop-next.invariant.is_node
+pub take_up-requires : goal.take_up-requires
+take_up-requires g c = record {
+  is_node = subst (λ next. IfSome next (λ entry. IsNode c.args.network.now.nodes entry.1)) c.in-Some.is c.loop-next.invariant.is_node;
+  in_time = c.requires.can.in_time;
+  classed = c.requires.can.classed;
+  places = c.requires.can.places;
+}
 
 pub returns-then-not-take_up-clause-crowded : goal.returns-then-not-take_up-clause-crowded
 returns-then-not-take_up-clause-crowded g c =

@@ -10,7 +10,7 @@ returns-then-time-last-clause-taken g c = λ yes.
     let roads = c.args.network.now in
     let table = (g.L.Table.labels c.args.table.now) in
     let node = c.args.entry.1 in
-    let is_node = c.requires.node in
+    let is_node = c.requires.is_node in
     let at_label = sym c.if-label-time.true ∙ c.label.ensures in
     let gathered = c.gather.ensures.gathered yes in
     record {
@@ -22,14 +22,14 @@ returns-then-time-last-clause-taken g c = λ yes.
 pub returns-then-time-last-clause-crowded : goal.returns-then-time-last-clause-crowded
 returns-then-time-last-clause-crowded g c = λ no.
     let table = (g.L.Table.labels c.args.table.now) in
-    let is_node = c.requires.node in
+    let is_node = c.requires.is_node in
     let at_label = sym c.if-label-time.true ∙ c.label.ensures in
     (at_label, c.if-time-last.true, c.gather.ensures.crowded no)
 
 pub returns-else-label-time-clause-taken : goal.returns-else-label-time-clause-taken
 returns-else-label-time-clause-taken g c = λ yes.
     let table = (g.L.Table.labels c.args.table.now) in
-    let is_node = c.requires.node in
+    let is_node = c.requires.is_node in
     let at_label = c.label.ensures in
     record {
       kept = λ other there. there;

@@ -10,15 +10,17 @@ use Rattle.ea_search.proofs.buckets.candidates.Candidates.gather.Goals as goal
 abbrev none : LeavingArc
 none = record { head = 0; weight = 0; class = 0 }
 
-pub look_at-requires-clause-arc : goal.look_at-requires-clause-arc
-look_at-requires-clause-arc g c =
+pub look_at-requires-clause-can : goal.look_at-requires-clause-can
+look_at-requires-clause-can g c =
     let beside = arc_beside c.args.network.now c.args.node c.leaving.result.numbers.now c.leaving.result.arcs.now c.loop-place.place none c.leaving.ensures.arcs c.loop-place-test.true in
-    rw c.with_tail.ensures (rw c.leaving.ensures.numbers at beside)
-
-pub look_at-requires-clause-placed : goal.look_at-requires-clause-placed
-look_at-requires-clause-placed g c =
     let lengths = rw c.leaving.ensures.numbers at c.leaving.ensures.arcs.lengths in
-    rw c.with_tail.ensures (omega (arith, lengths, c.loop-place-test.true))
+    record {
+      is_arc = rw c.with_tail.ensures (rw c.leaving.ensures.numbers at beside);
+      placed = rw c.with_tail.ensures (omega (arith, lengths, c.loop-place-test.true));
+      in_time = c.requires.in_time;
+      classed = c.requires.classed;
+      places = c.requires.places;
+    }
 
 pub loop-place-preserved : goal.loop-place-preserved
 loop-place-preserved g c =

@@ -4,13 +4,13 @@ use Rattle.ea_search.proofs.Fronts.{waiting_moved}
 use Rattle.ea_search.proofs.buckets.frontier.Frontier.move_in.Goals as goal
 
 pub moving-init : goal.moving-init
-moving-init g c = record { rest = λ node waits. waits; nodes = refl; walks = refl }
+moving-init g c = record { rest = λ node waits. waits; room = record { nodes = refl; walks = refl } }
 
 pub label-time-requires : goal.label-time-requires
-label-time-requires g c = (c.in-Some.ensures.node.0, omega (arith, c.in-Some.ensures.node.1, c.moving.invariant.nodes, c.requires))
+label-time-requires g c = (c.in-Some.ensures.is_node.0, omega (arith, c.in-Some.ensures.is_node.1, c.moving.invariant.room.nodes, c.requires))
 
 pub put-requires-clause-node : goal.put-requires-clause-node
-put-requires-clause-node g c = (c.in-Some.ensures.node.0, omega (arith, c.in-Some.ensures.node.1, c.in-Some.ensures.room.0))
+put-requires-clause-node g c = (c.in-Some.ensures.is_node.0, omega (arith, c.in-Some.ensures.is_node.1, c.in-Some.ensures.nodes))
 
 pub moving-preserved : goal.moving-preserved
 moving-preserved g c =
@@ -20,10 +20,9 @@ moving-preserved g c =
     let inv = c.moving.invariant in
     let at = sym c.label-time.ensures in
     record {
-      rest = λ v waits. waiting_moved (bound_of table) node c.moving.self c.take_waiting.new.self c.put.new.self _ e.taken e.lists (sym at) c.put.ensures v (inv.rest v waits);
-      nodes = c.put.ensures.nodes ∙ e.room.0 ∙ inv.nodes;
-      walks = c.put.ensures.walks ∙ e.room.1 ∙ inv.walks;
+      rest = λ v waits. waiting_moved (bound_of table) node c.moving.self c.take_waiting.new.self c.put.new.self _ e.waited e.lists (sym at) c.put.ensures v (inv.rest v waits);
+      room = record { nodes = c.put.ensures.nodes ∙ e.nodes ∙ inv.room.nodes; walks = c.put.ensures.walks ∙ e.walks ∙ inv.room.walks };
     }
 
 pub returns-in_default-clause-rest : goal.returns-in_default-clause-rest
-returns-in_default-clause-rest g c = rw c.in_default.ensures.taken c.moving.invariant.rest
+returns-in_default-clause-rest g c = rw c.in_default.ensures c.moving.invariant.rest
