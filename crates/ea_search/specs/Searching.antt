@@ -50,8 +50,8 @@ pub record CanRelax (roads : Roads) (classes : ℕ) (table : List ℕ) (place : 
   pub classed : top_class roads.arcs ≤ classes
   pub places : length table ≡ roads.nodes
 
--- What each step of a search keeps: the room, and that each node with a label is listed. It adds no work: a
--- node that is opened costs less than its label fell by.
+-- What each step of a search keeps: the room, and that each node with a label is listed. It adds no work: the
+-- label of a node that is opened falls by at least one.
 pub record KeepsSearch
     (table : List ℕ)
     (lists : ℕ → Type 0)

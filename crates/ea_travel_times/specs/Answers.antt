@@ -8,6 +8,11 @@ pub record IsQuestion (classes : ℕ) (class weight departure : ℕ) : Type 0 wh
   pub of_weight : weight < 2 ^ 32
   pub within : departure ≤ HORIZON
 
+-- A weight and a time in the ranges of a question.
+pub record AreInRange (weight time : ℕ) : Type 0 where
+  pub of_weight : weight < 2 ^ 32
+  pub within : time ≤ HORIZON
+
 -- First in, first out: each question has an answer, no answer is before its departure, and a later departure is not
 -- answered by an earlier arrival. So a question has exactly one answer.
 pub record IsFifo (answers : ℕ → ℕ → ℕ → ℕ → Type 0) (classes : ℕ) : Type 0 where

@@ -1,6 +1,6 @@
 -- The last step of trips or points that is done by a time, and the last departure by it.
 use Rattle.std.specs.Prelude.{◌≡◌, ℕ, ◌+◌, ◌*◌, ◌%◌, ◌<◌, ◌≤◌, List, length}
-use Rattle.ea_travel_times.specs.Points.{IsValue, line}
+use Rattle.ea_travel_times.specs.Points.{AreNextPoints, IsValue, line}
 use Rattle.ea_travel_times.specs.Speeds.{speed_sum, time_at, value_at}
 
 -- When who leaves at the step at a place is done: after the step's value.
@@ -15,6 +15,12 @@ pub record IsLastDone (period : ℕ) (steps : List (ℕ × ℕ)) (left begin pla
   pub by : begin + done_at steps place ≤ left
   pub next_late : place + 1 < length steps → left < begin + done_at steps (place + 1)
   pub turn_late : 0 < period → left < begin + period + done_at steps 0
+
+-- Who leaves at a point is done by a time, and who leaves at the next one is not.
+pub record IsDoneBetween (point next : ℕ × ℕ) (left : ℕ) : Type 0 where
+  pub points : AreNextPoints point next
+  pub from : point.0 + point.1 ≤ left
+  pub to : left < next.0 + next.1
 
 -- The last time between two points from which the straight line through them is done by a time.
 pub record IsLastOnLine (time value next_time next_value left last : ℕ) : Type 0 where

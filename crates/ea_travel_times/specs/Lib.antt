@@ -5,6 +5,7 @@ pub mod TurnedTimes
 pub mod TurnedLaws
 pub mod Directed
 pub mod DirectedLaws
+pub mod Halving
 pub mod Speeds
 pub mod Trips
 pub mod SpeedLaws

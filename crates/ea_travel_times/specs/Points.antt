@@ -1,13 +1,26 @@
 -- Travel times by points, the travel time functions of Batz, Geisberger, Sanders and Vetter (ACM Journal of Experimental Algorithmics 18,
 -- 2013) in whole numbers: a point has a departure and what an arc takes then beside its weight, and between two points the function is the
 -- straight line through them, rounded down. A period of 0 means none: `n % 0` is n.
-use Rattle.std.specs.Prelude.{◌≡◌, ◌⊎◌, ℕ, ◌+◌, ◌-◌, ◌*◌, ◌/◌, ◌%◌, ◌<◌, ◌≤◌, List, length}
+use Rattle.std.specs.Prelude.{◌≡◌, ◌⊎◌, ℕ, ◌+◌, ◌-◌, ◌*◌, ◌/◌, ◌%◌, ◌^◌, ◌<◌, ◌≤◌, List, length}
 use Rattle.ea_travel_times.specs.Speeds.{time_at, value_at}
 use Rattle.ea_travel_times.specs.Trips.{AreTrips}
 
 -- The straight line through two points, the second of which is later, rounded down.
 abbrev pub line : ℕ → ℕ → ℕ → ℕ → ℕ → ℕ
 line time value next_time next_value at = (value * (next_time - at) + next_value * (at - time)) / (next_time - time)
+
+-- A point, and a later one in range.
+pub record AreNextPoints (point next : ℕ × ℕ) : Type 0 where
+  pub rises : point.0 < next.0
+  pub within : next.0 ≤ 2 ^ 49
+  pub small : next.1 ≤ 2 ^ 32
+
+-- A time from a point to a later one, both in range.
+pub record IsBetweenPoints (point next : ℕ × ℕ) (at : ℕ) : Type 0 where
+  pub points : AreNextPoints point next
+  pub value : point.1 ≤ 2 ^ 32
+  pub from : point.0 ≤ at
+  pub to : at ≤ next.0
 
 -- A time lies between a point and the next one, and the value is that of the line through them.
 pub record IsBetween (points : List (ℕ × ℕ)) (at value : ℕ) : Type 0 where

@@ -6,11 +6,11 @@ use Rattle.std.proofs.Math.Bridge.{le_prop}
 use Rattle.std.proofs.Math.Nat.{le_antisymm, ℕ_set}
 use mathlib.Core.HLevel.{Σ_prop_path}
 use mathlib.Core.Logic.{∥∥₁_elim, ∥∥₁_prop}
-use Rattle.ea_travel_times.specs.Answers.{IsFifo, IsFifoFunction, IsQuestion}
+use Rattle.ea_travel_times.specs.Answers.{AreInRange, IsFifo, IsFifoFunction, IsQuestion}
 use Rattle.ea_travel_times.specs.Truncated.{truncated_is_fifo}
-use Rattle.ea_travel_times.specs.ProfileLists.{IsDeparture, IsFifoProfile, ListAnswers}
+use Rattle.ea_travel_times.specs.ProfileLists.{IsFifoProfile, ListAnswers}
 
-departure_of : {classes class weight departure : ℕ} → IsQuestion classes class weight departure → IsDeparture weight departure
+departure_of : {classes class weight departure : ℕ} → IsQuestion classes class weight departure → AreInRange weight departure
 departure_of question = record { of_weight = question.of_weight; within = question.within }
 
 -- two profiles at one place are one
@@ -25,12 +25,12 @@ some_at (profile ∷ profiles) (suc place) below = some_at profiles place (omega
 
 module _ {Profile : Type 0} (may : Profile → ℕ → ℕ → Type 0) (answers : Profile → ℕ → ℕ → ℕ → Type 0)
     (kept : (profile : Profile) → ∥ IsFifoProfile (may profile) (answers profile) ∥₁) where
-  list_not_before : (profiles : List Profile) (class weight departure arrival : ℕ) → IsDeparture weight departure → ListAnswers answers profiles class weight departure arrival → departure ≤ arrival
+  list_not_before : (profiles : List Profile) (class weight departure arrival : ℕ) → AreInRange weight departure → ListAnswers answers profiles class weight departure arrival → departure ≤ arrival
   list_not_before profiles zero weight departure arrival asked answer = omega (arith, answer)
   list_not_before profiles (suc place) weight departure arrival asked answer =
       ∥∥₁_elim answer le_prop (λ found. ∥∥₁_elim (kept found.0) le_prop (λ profile_is. profile_is.not_before weight departure arrival asked found.2))
 
-  list_in_order : (profiles : List Profile) (class weight departure later arrival next : ℕ) → IsDeparture weight departure → IsDeparture weight later → ListAnswers answers profiles class weight departure arrival → ListAnswers answers profiles class weight later next → departure ≤ later → arrival ≤ next
+  list_in_order : (profiles : List Profile) (class weight departure later arrival next : ℕ) → AreInRange weight departure → AreInRange weight later → ListAnswers answers profiles class weight departure arrival → ListAnswers answers profiles class weight later next → departure ≤ later → arrival ≤ next
   list_in_order profiles zero weight departure later arrival next asked asked_later answer other order = omega (arith, answer, other, order)
   list_in_order profiles (suc place) weight departure later arrival next asked asked_later answer other order =
       ∥∥₁_elim answer le_prop (λ found. ∥∥₁_elim other le_prop (λ second. ∥∥₁_elim (kept found.0) le_prop (λ profile_is.
@@ -43,14 +43,14 @@ module _ {Profile : Type 0} (may : Profile → ℕ → ℕ → Type 0) (answers 
   list_answer_prop profiles (suc place) weight departure arrival = ∥∥₁_prop
 
   -- one departure has at most one answer
-  one_answer : (profiles : List Profile) (class weight departure : ℕ) → IsDeparture weight departure → IsProp ((arrival : ℕ) × ListAnswers answers profiles class weight departure arrival)
+  one_answer : (profiles : List Profile) (class weight departure : ℕ) → AreInRange weight departure → IsProp ((arrival : ℕ) × ListAnswers answers profiles class weight departure arrival)
   one_answer profiles class weight departure asked one other =
       Σ_prop_path (list_answer_prop profiles class weight departure)
       (le_antisymm
       (list_in_order profiles class weight departure departure one.0 other.0 asked asked one.1 other.1 (omega arith))
       (list_in_order profiles class weight departure departure other.0 one.0 asked asked other.1 one.1 (omega arith)))
 
-  list_has_answer : (profiles : List Profile) (class weight departure : ℕ) → class ≤ length profiles → IsDeparture weight departure → (arrival : ℕ) × ListAnswers answers profiles class weight departure arrival
+  list_has_answer : (profiles : List Profile) (class weight departure : ℕ) → class ≤ length profiles → AreInRange weight departure → (arrival : ℕ) × ListAnswers answers profiles class weight departure arrival
   list_has_answer profiles zero weight departure listed asked = (departure + weight, refl)
   list_has_answer profiles (suc place) weight departure listed asked =
       let found = some_at profiles place (omega (arith, listed)) in
@@ -74,7 +74,7 @@ listed_answer answers profiles (suc place) weight departure arrival profile list
     let same : (suc place - 1 ≡ place) = omega arith in
     ∣ (profile, subst (λ number. slice_get profiles number ≡ Some profile) same at, answer) ∣₁
 
-pub profile_not_before : {may : ℕ → ℕ → Type 0} {answers : ℕ → ℕ → ℕ → Type 0} {weight departure arrival : ℕ} → ∥ IsFifoProfile may answers ∥₁ → IsDeparture weight departure → answers weight departure arrival → departure ≤ arrival
+pub profile_not_before : {may : ℕ → ℕ → Type 0} {answers : ℕ → ℕ → ℕ → Type 0} {weight departure arrival : ℕ} → ∥ IsFifoProfile may answers ∥₁ → AreInRange weight departure → answers weight departure arrival → departure ≤ arrival
 profile_not_before kept asked answer = ∥∥₁_elim kept le_prop (λ profile_is. profile_is.not_before _ _ _ asked answer)
 
 -- one profile for every class

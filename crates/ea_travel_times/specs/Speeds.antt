@@ -61,6 +61,11 @@ pub record IsTimeOfSum (steps : List (ℕ × ℕ)) (sum time : ℕ) : Type 0 whe
   pub passed : sum ≤ sum_to steps time
   pub not_sooner : sum_to steps (time - 1) < sum
 
+-- That time, in the period or at its end.
+pub record IsTimeOfSumIn (period : ℕ) (steps : List (ℕ × ℕ)) (sum time : ℕ) : Type 0 where
+  pub is : IsTimeOfSum steps sum time
+  pub within : time ≤ period
+
 -- When the sum of the speeds from the beginning of a period on is first so large, but never after `never`: after some whole
 -- periods, at a time of one more.
 pub record IsTimeOfSums (period : ℕ) (steps : List (ℕ × ℕ)) (begin sum arrival : ℕ) : Type 0 where
@@ -70,6 +75,11 @@ pub record IsTimeOfSums (period : ℕ) (steps : List (ℕ × ℕ)) (begin sum ar
   pub in_period : IsTimeOfSum steps (sum - turns * sum_to steps period) time
   pub within : time ≤ period
   pub arrives : arrival ≡ min (begin + turns * period + time) never
+
+-- There are steps, and the first is at time 0.
+pub record BeginsAtZero (steps : List (ℕ × ℕ)) : Type 0 where
+  pub some : 0 < length steps
+  pub from_zero : time_at steps 0 ≡ 0
 
 -- A time lies in the step at a place.
 pub record IsInStep (steps : List (ℕ × ℕ)) (time place : ℕ) : Type 0 where
@@ -81,6 +91,11 @@ pub record IsInStep (steps : List (ℕ × ℕ)) (time place : ℕ) : Type 0 wher
 pub record AreRunSums (steps : List (ℕ × ℕ)) (sums : List ℕ) : Type 0 where
   pub count : length sums ≡ length steps
   pub each : (place : ℕ) → place < length steps → slice_index sums place ≡ sum_to steps (time_at steps place)
+
+-- The sum beside a step, by the step before it and the sum beside that one: it begins anew at time 0.
+pub record IsNextSum (sum : ℕ) (before step : ℕ × ℕ) (next : ℕ) : Type 0 where
+  pub anew : step.0 ≡ 0 → next ≡ 0
+  pub on : 0 < step.0 → sum + before.1 * (step.0 - before.0) < 2 ^ 64 → next ≡ sum + before.1 * (step.0 - before.0)
 
 -- Sums beside the first steps of several classes: they begin anew at each step at time 0, and otherwise add what the step before
 -- moves up to this step's time, if that is below 2^64.
@@ -94,3 +109,34 @@ pub record AreFirstSums (steps : List (ℕ × ℕ)) (sums : List ℕ) : Type 0 w
 pub record AreSums (steps : List (ℕ × ℕ)) (sums : List ℕ) : Type 0 where
   pub count : length sums ≡ length steps
   pub first : AreFirstSums steps sums
+
+-- The steps of one period, and their sums.
+pub record AreSummedSpeeds (period : ℕ) (steps : List (ℕ × ℕ)) (sums : List ℕ) : Type 0 where
+  pub speeds : AreSpeeds period steps
+  pub sums_are : AreRunSums steps sums
+
+-- A time lies in the step at a place, or ends it.
+pub record IsInStepOrEnd (period : ℕ) (steps : List (ℕ × ℕ)) (time place : ℕ) : Type 0 where
+  pub found : place < length steps
+  pub not_before : time_at steps place ≤ time
+  pub not_after : time ≤ end_at period steps place
+
+-- The sum of one period's speeds before a time, and a bound of it.
+pub record IsSumTo (steps : List (ℕ × ℕ)) (time sum : ℕ) : Type 0 where
+  pub is : sum ≡ sum_to steps time
+  pub small : sum ≤ 1000000 * time
+
+-- A period begins at a time, which is within the horizon.
+pub record IsPeriodBegin (period begin : ℕ) : Type 0 where
+  pub begins : begin % period ≡ 0
+  pub within : begin ≤ HORIZON
+
+-- A speed above 0, in range.
+pub record IsSpeed (speed : ℕ) : Type 0 where
+  pub moves : 0 < speed
+  pub to_full : speed ≤ 1000000
+
+-- A sum above 0 that the speeds of a period reach.
+pub record IsReachedSum (period : ℕ) (steps : List (ℕ × ℕ)) (sum : ℕ) : Type 0 where
+  pub from_one : 0 < sum
+  pub to_whole : sum ≤ sum_to steps period

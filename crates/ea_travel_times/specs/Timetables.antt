@@ -1,5 +1,5 @@
 -- The kinds of timetable.
-use Rattle.std.specs.Prelude.{◌≡◌, ℕ, List, Some, IsTrue, length, slice_get, take, drop, ◌+◌, ◌%◌, ◌^◌, ◌≤◌, max, Bool, true, false, ◌&&◌, nat_lt, nat_le, if◌then◌else◌}
+use Rattle.std.specs.Prelude.{◌≡◌, ℕ, List, Some, IsTrue, length, slice_get, take, drop, ◌+◌, ◌%◌, ◌^◌, ◌<◌, ◌≤◌, max, Bool, true, false, ◌&&◌, nat_lt, nat_le, if◌then◌else◌}
 use Rattle.ea_base.specs.declared.limits.TheConstants.{HORIZON}
 use Rattle.ea_base.specs.declared.timetable.RawKind.{RawKind}
 use Rattle.ea_travel_times.specs.Points.{ArePoints, IsArrivalByPoints}
@@ -70,6 +70,11 @@ IsClass steps (Speeds period first count) = (first + count ≤ length steps) × 
 IsClass steps (Trips period first count) = (first + count ≤ length steps) × AreTrips period (run_of steps first count)
 IsClass steps (Points period first count) = (first + count ≤ length steps) × ArePoints period (run_of steps first count)
 IsClass steps kind = IsTrue (is_kind kind)
+
+-- A class above 0, that of a kind in the list.
+pub record HasKind (kinds : List RawKind) (class : ℕ) : Type 0 where
+  pub from_one : 0 < class
+  pub to_last : class ≤ length kinds
 
 -- Kinds whose numbers are in their ranges, with the steps of those that have some.
 pub record AreFit (kinds : List RawKind) (steps : List (ℕ × ℕ)) : Type 0 where

@@ -27,6 +27,11 @@ IsArrivalByTrips period steps weight departure arrival =
     ((time : ℕ) × (extra : ℕ) × IsNextTrip period steps departure time extra × (arrival ≡ min (time + weight + extra) never))
     ⊎ (IsAfterLastTrip period steps departure × (arrival ≡ never))
 
+-- A step in range: when its trip leaves, and what its ride takes beside the weight.
+pub record IsTripStep (step : ℕ × ℕ) : Type 0 where
+  pub leaves : step.0 ≤ HORIZON
+  pub takes : step.1 ≤ 2 ^ 32
+
 -- The trips of a line: they ascend and stay below the period if there is one, and none arrives before an earlier one, also
 -- from one period to the next.
 pub record AreTrips (period : ℕ) (steps : List (ℕ × ℕ)) : Type 0 where

@@ -1,5 +1,6 @@
 //! The last step of trips or points that is done by a time: what leaves at a step takes the step's value.
 ghost use Rattle.std.specs.Prelude.{◌≤◌, ◌<◌, ◌+◌, ◌-◌, ◌^◌, MatchOption, length, ℕ};
+ghost use Rattle.ea_travel_times.specs.Halving.{IsPartitionPoint};
 ghost use Rattle.ea_travel_times.specs.LastSteps.{IsLastDone, done_at};
 ghost use Rattle.ea_travel_times.specs.Trips.{AreTrips};
 
@@ -8,9 +9,7 @@ use crate::steps::phase_of;
 /// How many steps are done by a time, by halves, if a later one is done no earlier.
 fn done_by(steps: &[(u64, u64)], time: u64) -> usize
     requires small { (place : ℕ) → place < length steps.now → done_at steps.now place < 2 ^ 64 }
-    ensures inside { result ≤ length steps.now }
-    ensures before { 0 < result → done_at steps.now (result - 1) ≤ time }
-    ensures after { result < length steps.now → time < done_at steps.now result }
+    ensures { IsPartitionPoint (done_at steps.now) (length steps.now) (time + 1) result }
 {
     let mut low = 0;
     let mut high = steps.len();

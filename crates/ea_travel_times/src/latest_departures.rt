@@ -2,6 +2,7 @@
 ghost use Rattle.std.specs.Prelude.{◌≤◌, ◌<◌, ◌^◌, IsTrue, MatchOption};
 ghost use Rattle.ea_base.specs.declared.limits.TheConstants.{HORIZON};
 ghost use Rattle.ea_base.specs.declared.timetable.RawKind.TheVariants.{Closed, Every, Plain, Rush};
+ghost use Rattle.ea_travel_times.specs.Answers.{AreInRange};
 ghost use Rattle.ea_travel_times.specs.Departures.{IsLastTime, IsLatest};
 ghost use Rattle.ea_travel_times.specs.Timetables.{KindAnswers, is_kind};
 
@@ -75,8 +76,7 @@ fn latest_rush(lo: u64, hi: u64, extra: u64, weight: u64, arrival: u64) -> Optio
 /// The latest departure of a kind that has no steps, by which an arc of a weight arrives by a time.
 pub(crate) fn latest_by(kind: RawKind, weight: u64, arrival: u64) -> Option<u64>
     requires kind { IsTrue (is_kind kind) }
-    requires weight { weight < 2 ^ 32 }
-    requires arrival { arrival ≤ HORIZON }
+    requires range { AreInRange weight arrival }
     ensures { IsLatest (λ class. KindAnswers kind) 0 weight arrival result }
 {
     match kind {

@@ -2,7 +2,8 @@
 ghost use Rattle.std.specs.Prelude.{◌≡◌, ◌≤◌, ◌<◌, ◌+◌, ◌^◌, MatchOption};
 ghost use Rattle.ea_base.specs.declared.limits.TheConstants.{HORIZON};
 ghost use Rattle.ea_travel_times.specs.Departures.{IsLatest};
-ghost use Rattle.ea_travel_times.specs.LastSteps.{IsLastByPoints, IsLastOnLine, IsNeverByPoints, done_at};
+ghost use Rattle.ea_travel_times.specs.LastSteps.{IsDoneBetween, IsLastByPoints, IsLastOnLine};
+ghost use Rattle.ea_travel_times.specs.LastSteps.{IsNeverByPoints, done_at};
 ghost use Rattle.ea_travel_times.specs.Points.{ArePoints, IsArrivalByPoints};
 
 use crate::last_done::last_done;
@@ -12,11 +13,7 @@ const NEAR: u64 = 2_147_483_647;
 
 /// The last time between two points from which the straight line through them is done by a time.
 fn last_between(point: (u64, u64), next: (u64, u64), left: u64) -> u64
-    requires rises { point.0 < next.0 }
-    requires from { point.0 + point.1 ≤ left }
-    requires to { left < next.0 + next.1 }
-    requires next { next.1 ≤ 2 ^ 32 }
-    requires within { next.0 ≤ 2 ^ 49 }
+    requires { IsDoneBetween point next left }
     ensures { IsLastOnLine point.0 point.1 next.0 next.1 left result }
 {
     let apart = next.0 - point.0;

@@ -1,19 +1,19 @@
 //! The latest departures by speeds.
 ghost use Rattle.std.specs.Prelude.{◌≡◌, ◌≤◌, ◌<◌, ◌*◌, ◌%◌, ◌^◌, MatchOption};
 ghost use Rattle.ea_base.specs.declared.limits.TheConstants.{HORIZON};
+ghost use Rattle.ea_travel_times.specs.Answers.{AreInRange};
 ghost use Rattle.ea_travel_times.specs.Departures.{IsLatest};
 ghost use Rattle.ea_travel_times.specs.LastSteps.{IsLastBySpeeds};
-ghost use Rattle.ea_travel_times.specs.Speeds.{AreRunSums, AreSpeeds, IsArrivalBySpeeds, speed_at, speed_sum, sum_to};
+ghost use Rattle.ea_travel_times.specs.Speeds.{AreSummedSpeeds, IsArrivalBySpeeds, IsPeriodBegin};
+ghost use Rattle.ea_travel_times.specs.Speeds.{IsSumTo, speed_at, speed_sum};
 
 use crate::steps::{step_at, sum_of_period, sum_until, time_of_sum};
 
 /// The sum of a period's speeds before a time of it.
 fn sum_before(steps: &[(u64, u64)], sums: &[u64], period: u64, time: u64) -> u64
-    requires speeds { AreSpeeds period steps.now }
-    requires sums { AreRunSums steps.now sums.now }
+    requires speeds { AreSummedSpeeds period steps.now sums.now }
     requires time { time < period }
-    ensures is { result ≡ sum_to steps.now time }
-    ensures small { result ≤ 1000000 * time }
+    ensures { IsSumTo steps.now time result }
 {
     sum_until(steps, sums, period, step_at(steps, time), time)
 }
@@ -26,12 +26,10 @@ fn last_before(
     need: u64,
     begin: u64,
 ) -> Option<u64>
-    requires speeds { AreSpeeds period steps.now }
-    requires sums { AreRunSums steps.now sums.now }
+    requires speeds { AreSummedSpeeds period steps.now sums.now }
     requires need { 0 < need }
     requires small { need < 2 ^ 42 }
-    requires begins { begin % period ≡ 0 }
-    requires begin { begin ≤ HORIZON }
+    requires begin { IsPeriodBegin period begin }
     ensures { MatchOption result (speed_sum (speed_at steps.now period) 0 begin < need)
         (IsLastBySpeeds (speed_at steps.now period) begin need) }
 {
@@ -52,10 +50,8 @@ pub(crate) fn latest_by_speeds(
     weight: u64,
     arrival: u64,
 ) -> Option<u64>
-    requires speeds { AreSpeeds period steps.now }
-    requires sums { AreRunSums steps.now sums.now }
-    requires weight { weight < 2 ^ 32 }
-    requires arrival { arrival ≤ HORIZON }
+    requires speeds { AreSummedSpeeds period steps.now sums.now }
+    requires range { AreInRange weight arrival }
     ensures { IsLatest (λ class. IsArrivalBySpeeds (speed_at steps.now period)) 0 weight arrival
         result }
 {

@@ -1,12 +1,14 @@
 //! The latest departures of kinds that have steps, by the steps of all classes.
 ghost use Rattle.std.specs.Prelude.{◌≡◌, ◌≤◌, ◌<◌, ◌+◌, ◌^◌, length, true};
 ghost use Rattle.ea_base.specs.declared.limits.TheConstants.{HORIZON};
+ghost use Rattle.ea_base.specs.declared.timetable.RawKind.TheVariants.{Points, Speeds, Trips};
+ghost use Rattle.ea_travel_times.specs.Answers.{AreInRange};
 ghost use Rattle.ea_travel_times.specs.Departures.{IsLatest};
-ghost use Rattle.ea_travel_times.specs.Points.{ArePoints, IsArrivalByPoints};
-ghost use Rattle.ea_travel_times.specs.Speeds.{AreSpeeds, IsArrivalBySpeeds, speed_at};
+ghost use Rattle.ea_travel_times.specs.Points.{IsArrivalByPoints};
+ghost use Rattle.ea_travel_times.specs.Speeds.{IsArrivalBySpeeds, speed_at};
 ghost use Rattle.ea_travel_times.specs.StepLists.{steps_in};
 ghost use Rattle.ea_travel_times.specs.Timetables.{ClassAnswers, IsClass, has_run, run_of};
-ghost use Rattle.ea_travel_times.specs.Trips.{AreTrips, IsArrivalByTrips};
+ghost use Rattle.ea_travel_times.specs.Trips.{IsArrivalByTrips};
 
 use crate::latest_points::latest_by_points;
 use crate::latest_speeds::latest_by_speeds;
@@ -24,10 +26,8 @@ fn by_speeds(
     weight: u64,
     arrival: u64,
 ) -> Option<u64>
-    requires inside { first + count ≤ length table.now.list.items }
-    requires speeds { AreSpeeds period (run_of table.now.list.items first count) }
-    requires weight { weight < 2 ^ 32 }
-    requires arrival { arrival ≤ HORIZON }
+    requires class { IsClass table.now.list.items (Speeds period first count) }
+    requires range { AreInRange weight arrival }
     ensures { IsLatest (λ class. IsArrivalBySpeeds
         (speed_at (run_of table.now.list.items first count) period)) 0 weight arrival result }
 {
@@ -45,8 +45,7 @@ fn by_trips(
     weight: u64,
     arrival: u64,
 ) -> Option<u64>
-    requires inside { first + count ≤ length table.now.list.items }
-    requires trips { AreTrips period (run_of table.now.list.items first count) }
+    requires class { IsClass table.now.list.items (Trips period first count) }
     requires arrival { arrival ≤ HORIZON }
     ensures { IsLatest (λ class. IsArrivalByTrips period
         (run_of table.now.list.items first count)) 0 weight arrival result }
@@ -64,8 +63,7 @@ fn by_points(
     weight: u64,
     arrival: u64,
 ) -> Option<u64>
-    requires inside { first + count ≤ length table.now.list.items }
-    requires points { ArePoints period (run_of table.now.list.items first count) }
+    requires class { IsClass table.now.list.items (Points period first count) }
     requires arrival { arrival ≤ HORIZON }
     ensures { IsLatest (λ class. IsArrivalByPoints period
         (run_of table.now.list.items first count)) 0 weight arrival result }
@@ -83,8 +81,7 @@ pub(crate) fn latest_by_steps(
 ) -> Option<u64>
     requires class { IsClass (steps_in steps.now) kind }
     requires has_steps { has_run kind ≡ true }
-    requires weight { weight < 2 ^ 32 }
-    requires arrival { arrival ≤ HORIZON }
+    requires range { AreInRange weight arrival }
     ensures { IsLatest (λ class. ClassAnswers (steps_in steps.now) kind) 0 weight arrival result }
 {
     let Some(table) = steps else {

@@ -1,7 +1,8 @@
 //! Least travel times of classes that have steps.
 ghost use Rattle.std.specs.Prelude.{◌≡◌, ◌≤◌, ◌<◌, ◌^◌, IfOk, length, slice_index_or};
-ghost use Rattle.ea_travel_times.specs.Extremes.{AreExtremes, IsExtreme};
+ghost use Rattle.ea_travel_times.specs.Extremes.{AreExtremes, IsClassAt, IsExtreme};
 ghost use Rattle.ea_travel_times.specs.Lows.{ClassLow, IsGreatestValue, IsLeastTimes, IsLeastValue};
+ghost use Rattle.ea_travel_times.specs.Speeds.{IsSpeed};
 ghost use Rattle.ea_travel_times.specs.StepLists.{extremes_in, steps_in};
 ghost use Rattle.ea_travel_times.specs.Timetables.{AreFit, IsClass};
 
@@ -69,8 +70,7 @@ pub(crate) fn extremes_of(
 
 /// The least number of times in which a speed makes up a thousand times the weight.
 fn times_at(speed: u64, weight: u64) -> u64
-    requires moves { 0 < speed }
-    requires speed { speed ≤ 1000000 }
+    requires speed { IsSpeed speed }
     requires weight { weight < 2 ^ 32 }
     ensures { IsLeastTimes speed weight result }
 {
@@ -89,9 +89,7 @@ fn extreme_at(steps: &Option<StepTable>, place: usize) -> u64
 
 /// The least travel time of the class at a place, which is of this kind.
 pub(crate) fn low_at(steps: &Option<StepTable>, kind: RawKind, place: usize, weight: u64) -> u64
-    requires class { IsClass (steps_in steps.now) kind }
-    requires extreme { IsExtreme (steps_in steps.now) kind
-        (slice_index_or (extremes_in steps.now) place 0) }
+    requires class { IsClassAt (steps_in steps.now) (extremes_in steps.now) kind place }
     requires weight { weight < 2 ^ 32 }
     ensures { ClassLow (steps_in steps.now) kind weight result }
 {

@@ -1,7 +1,9 @@
 //! Travel times by points: the value of a function at a departure, between two of its points.
 ghost use Rattle.std.specs.Prelude.{◌≡◌, ◌≤◌, ◌<◌, ◌-◌, ◌^◌, length};
 ghost use Rattle.ea_base.specs.declared.limits.TheConstants.{HORIZON};
-ghost use Rattle.ea_travel_times.specs.Points.{ArePoints, IsAfterLast, IsArrivalByPoints, IsBeforeFirst, IsValue, line};
+ghost use Rattle.ea_travel_times.specs.Answers.{AreInRange};
+ghost use Rattle.ea_travel_times.specs.Points.{ArePoints, IsAfterLast, IsArrivalByPoints};
+ghost use Rattle.ea_travel_times.specs.Points.{IsBeforeFirst, IsBetweenPoints, IsValue, line};
 ghost use Rattle.ea_travel_times.specs.Speeds.{time_at};
 
 use crate::steps::{phase_of, steps_before};
@@ -11,12 +13,7 @@ const NEAR: u64 = 4_294_967_295;
 
 /// The straight line through two points at a time between them, rounded down.
 fn value_between(point: (u64, u64), next: (u64, u64), at: u64) -> u64
-    requires rises { point.0 < next.0 }
-    requires from { point.0 ≤ at }
-    requires to { at ≤ next.0 }
-    requires point { point.1 ≤ 2 ^ 32 }
-    requires next { next.1 ≤ 2 ^ 32 }
-    requires within { next.0 ≤ 2 ^ 49 }
+    requires { IsBetweenPoints point next at }
     ensures is { result ≡ line point.0 point.1 next.0 next.1 at }
     ensures small { result ≤ 2 ^ 32 }
 {
@@ -87,8 +84,7 @@ pub(crate) fn arrive_by_points(
     departure: u64,
 ) -> u64
     requires points { ArePoints period points.now }
-    requires weight { weight < 2 ^ 32 }
-    requires departure { departure ≤ HORIZON }
+    requires range { AreInRange weight departure }
     ensures { IsArrivalByPoints period points.now weight departure result }
 {
     let phase = phase_of(period, departure);

@@ -1,5 +1,6 @@
 ghost use Rattle.std.specs.Prelude.{ℕ, ◌≡◌, ◌≤◌};
-ghost use Rattle.ea_travel_times.specs.ProfileLists.{IsDeparture, IsFifoProfile};
+ghost use Rattle.ea_travel_times.specs.Answers.{AreInRange};
+ghost use Rattle.ea_travel_times.specs.ProfileLists.{IsFifoProfile};
 
 use crate::travel_times::TravelTimes;
 
@@ -12,7 +13,7 @@ pub type Arrival = Box<dyn Fn(u64, u64) -> u64 + Send + Sync>;
 #[derive(Drop)]
 pub struct Profile {
     pub arrival: Arrival,
-    pub ghost may_ask: { (weight departure : ℕ) → IsDeparture weight departure
+    pub ghost may_ask: { (weight departure : ℕ) → AreInRange weight departure
         → Arrival.pre arrival weight departure },
     pub ghost fifo: { ∥ IsFifoProfile (Arrival.pre arrival) (Arrival.post arrival) ∥₁ },
 }
@@ -28,7 +29,7 @@ impl Profile {
 
     /// When an arc of this profile and a weight arrives that is left at a departure.
     pub fn arrive(&self, weight: u64, departure: u64) -> u64
-        requires { IsDeparture weight departure }
+        requires { AreInRange weight departure }
         ensures { Arrival.post self.now.arrival weight departure result }
     {
         (self.arrival)(weight, departure)

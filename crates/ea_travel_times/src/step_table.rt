@@ -1,11 +1,12 @@
 //! The steps of all classes of a list of timetables.
 ghost use Rattle.std.specs.Prelude.{◌≡◌, ◌≤◌, ◌<◌, ◌+◌, ◌^◌, IfOk, length, slice_index_or};
-ghost use Rattle.ea_base.specs.declared.limits.TheConstants.{HORIZON};
+ghost use Rattle.ea_base.specs.declared.timetable.RawKind.TheVariants.{Points, Speeds, Trips};
+ghost use Rattle.ea_travel_times.specs.Answers.{AreInRange};
 ghost use Rattle.ea_travel_times.specs.Extremes.{AreExtremes};
-ghost use Rattle.ea_travel_times.specs.Points.{ArePoints, IsArrivalByPoints};
-ghost use Rattle.ea_travel_times.specs.Speeds.{AreSpeeds, AreSums, IsArrivalBySpeeds, speed_at};
-ghost use Rattle.ea_travel_times.specs.Timetables.{AreFit, run_of};
-ghost use Rattle.ea_travel_times.specs.Trips.{AreTrips, IsArrivalByTrips};
+ghost use Rattle.ea_travel_times.specs.Points.{IsArrivalByPoints};
+ghost use Rattle.ea_travel_times.specs.Speeds.{AreSums, IsArrivalBySpeeds, speed_at};
+ghost use Rattle.ea_travel_times.specs.Timetables.{AreFit, IsClass, run_of};
+ghost use Rattle.ea_travel_times.specs.Trips.{IsArrivalByTrips};
 
 use crate::least_times::extremes_of;
 use crate::points::arrive_by_points;
@@ -63,10 +64,8 @@ impl StepTable {
         weight: u64,
         departure: u64,
     ) -> u64
-        requires inside { first + count ≤ length self.now.list.items }
-        requires speeds { AreSpeeds period (run_of self.now.list.items first count) }
-        requires weight { weight < 2 ^ 32 }
-        requires departure { departure ≤ HORIZON }
+        requires class { IsClass self.now.list.items (Speeds period first count) }
+        requires range { AreInRange weight departure }
         ensures { IsArrivalBySpeeds (speed_at (run_of self.now.list.items first count) period)
             weight departure result }
     {
@@ -84,10 +83,8 @@ impl StepTable {
         weight: u64,
         departure: u64,
     ) -> u64
-        requires inside { first + count ≤ length self.now.list.items }
-        requires trips { AreTrips period (run_of self.now.list.items first count) }
-        requires weight { weight < 2 ^ 32 }
-        requires departure { departure ≤ HORIZON }
+        requires class { IsClass self.now.list.items (Trips period first count) }
+        requires range { AreInRange weight departure }
         ensures { IsArrivalByTrips period (run_of self.now.list.items first count)
             weight departure result }
     {
@@ -104,10 +101,8 @@ impl StepTable {
         weight: u64,
         departure: u64,
     ) -> u64
-        requires inside { first + count ≤ length self.now.list.items }
-        requires points { ArePoints period (run_of self.now.list.items first count) }
-        requires weight { weight < 2 ^ 32 }
-        requires departure { departure ≤ HORIZON }
+        requires class { IsClass self.now.list.items (Points period first count) }
+        requires range { AreInRange weight departure }
         ensures { IsArrivalByPoints period (run_of self.now.list.items first count)
             weight departure result }
     {

@@ -1,8 +1,13 @@
 //! Steps of classes of speeds and of trips, which several classes keep in one list.
 ghost use Rattle.std.specs.Prelude.{◌≡◌, ◌≤◌, ◌<◌, ◌+◌, ◌-◌, ◌*◌, ◌%◌, ◌^◌, IfOk, drop, length, min, slice_index, take};
 ghost use Rattle.ea_base.specs.declared.limits.TheConstants.{HORIZON};
-ghost use Rattle.ea_travel_times.specs.Trips.{AreTrips, IsArrivalByTrips};
-ghost use Rattle.ea_travel_times.specs.Speeds.{AreRunSums, AreSpeeds, AreSums, IsArrivalBySpeeds, IsInStep, IsTimeOfSum, IsTimeOfSums, end_at, never, speed_at, sum_to, time_at, value_at};
+ghost use Rattle.ea_travel_times.specs.Answers.{AreInRange};
+ghost use Rattle.ea_travel_times.specs.Halving.{IsPartitionPoint};
+ghost use Rattle.ea_travel_times.specs.Speeds.{AreSummedSpeeds, AreSums, BeginsAtZero, IsArrivalBySpeeds};
+ghost use Rattle.ea_travel_times.specs.Speeds.{IsInStep, IsInStepOrEnd, IsNextSum, IsReachedSum, IsSumTo};
+ghost use Rattle.ea_travel_times.specs.Speeds.{IsTimeOfSumIn, IsTimeOfSums};
+ghost use Rattle.ea_travel_times.specs.Speeds.{end_at, never, speed_at, sum_to, time_at, value_at};
+ghost use Rattle.ea_travel_times.specs.Trips.{AreTrips, IsArrivalByTrips, IsTripStep};
 
 use crate::HORIZON;
 use std::alloc::{AllocError, Global};
@@ -28,9 +33,7 @@ pub(crate) fn sums_from(list: &[u64], first: usize, count: usize) -> &[u64]
 
 /// The sum beside a step, by the sum beside the step before it; it begins anew at time 0.
 fn next_sum(sum: u64, before: (u64, u64), step: (u64, u64)) -> u64
-    ensures anew { step.0 ≡ 0 → result ≡ 0 }
-    ensures on { 0 < step.0 → sum + before.1 * (step.0 - before.0) < 2 ^ 64
-        → result ≡ sum + before.1 * (step.0 - before.0) }
+    ensures { IsNextSum sum before step result }
 {
     if step.0 == 0 {
         0
@@ -57,9 +60,7 @@ pub(crate) fn sums_of(alloc: Global, steps: &[(u64, u64)]) -> Result<Vec<u64>, A
 
 /// The place, by halves, before which the last step is before a time and at which the step is not.
 pub(crate) fn steps_before(steps: &[(u64, u64)], time: u64) -> usize
-    ensures inside { result ≤ length steps.now }
-    ensures before { 0 < result → time_at steps.now (result - 1) < time }
-    ensures after { result < length steps.now → time ≤ time_at steps.now result }
+    ensures { IsPartitionPoint (time_at steps.now) (length steps.now) time result }
 {
     let mut low = 0;
     let mut high = steps.len();
@@ -76,9 +77,7 @@ pub(crate) fn steps_before(steps: &[(u64, u64)], time: u64) -> usize
 
 /// The same for sums.
 fn sums_before(sums: &[u64], sum: u64) -> usize
-    ensures inside { result ≤ length sums.now }
-    ensures before { 0 < result → slice_index sums.now (result - 1) < sum }
-    ensures after { result < length sums.now → sum ≤ slice_index sums.now result }
+    ensures { IsPartitionPoint (slice_index sums.now) (length sums.now) sum result }
 {
     let mut low = 0;
     let mut high = sums.len();
@@ -95,8 +94,7 @@ fn sums_before(sums: &[u64], sum: u64) -> usize
 
 /// The place of the step of speeds in which a time lies.
 pub(crate) fn step_at(steps: &[(u64, u64)], time: u64) -> usize
-    requires some { 0 < length steps.now }
-    requires from_zero { time_at steps.now 0 ≡ 0 }
+    requires steps { BeginsAtZero steps.now }
     requires time { time < 2 ^ 63 }
     ensures { IsInStep steps.now time result }
 {
@@ -123,36 +121,27 @@ pub(crate) fn sum_until(
     place: usize,
     time: u64,
 ) -> u64
-    requires speeds { AreSpeeds period steps.now }
-    requires sums { AreRunSums steps.now sums.now }
-    requires place { place < length steps.now }
-    requires not_before { time_at steps.now place ≤ time }
-    requires not_after { time ≤ end_at period steps.now place }
-    ensures is { result ≡ sum_to steps.now time }
-    ensures small { result ≤ 1000000 * time }
+    requires speeds { AreSummedSpeeds period steps.now sums.now }
+    requires place { IsInStepOrEnd period steps.now time place }
+    ensures { IsSumTo steps.now time result }
 {
     sums[place] + steps[place].1 * (time - steps[place].0)
 }
 
 /// The sum of a period's speeds.
 pub(crate) fn sum_of_period(steps: &[(u64, u64)], sums: &[u64], period: u64) -> u64
-    requires speeds { AreSpeeds period steps.now }
-    requires sums { AreRunSums steps.now sums.now }
-    ensures is { result ≡ sum_to steps.now period }
+    requires { AreSummedSpeeds period steps.now sums.now }
+    ensures sum { IsSumTo steps.now period result }
     ensures some { 0 < result }
-    ensures small { result ≤ 1000000 * period }
 {
     sum_until(steps, sums, period, steps.len() - 1, period)
 }
 
 /// When the sum of a period's speeds is first so large.
 pub(crate) fn time_of_sum(steps: &[(u64, u64)], sums: &[u64], period: u64, sum: u64) -> u64
-    requires speeds { AreSpeeds period steps.now }
-    requires sums { AreRunSums steps.now sums.now }
-    requires from_one { 0 < sum }
-    requires to_whole { sum ≤ sum_to steps.now period }
-    ensures is { IsTimeOfSum steps.now sum result }
-    ensures within { result ≤ period }
+    requires speeds { AreSummedSpeeds period steps.now sums.now }
+    requires sum { IsReachedSum period steps.now sum }
+    ensures { IsTimeOfSumIn period steps.now sum result }
 {
     let place = sums_before(sums, sum) - 1;
     steps[place].0 + (sum - sums[place]).div_ceil(steps[place].1)
@@ -171,8 +160,7 @@ fn after_periods(begin: u64, count: u64, period: u64, time: u64) -> u64
 
 /// The arrival by the speeds of a period, of an arc of a weight above 0.
 fn arrive_later(steps: &[(u64, u64)], sums: &[u64], period: u64, sum: u64, begin: u64) -> u64
-    requires speeds { AreSpeeds period steps.now }
-    requires sums { AreRunSums steps.now sums.now }
+    requires speeds { AreSummedSpeeds period steps.now sums.now }
     requires begin { begin ≤ HORIZON }
     requires from_one { 0 < sum }
     ensures { IsTimeOfSums period steps.now begin sum result }
@@ -191,10 +179,8 @@ pub(crate) fn arrive_by_speeds(
     weight: u64,
     departure: u64,
 ) -> u64
-    requires speeds { AreSpeeds period steps.now }
-    requires sums { AreRunSums steps.now sums.now }
-    requires weight { weight < 2 ^ 32 }
-    requires departure { departure ≤ HORIZON }
+    requires speeds { AreSummedSpeeds period steps.now sums.now }
+    requires range { AreInRange weight departure }
     ensures { IsArrivalBySpeeds (speed_at steps.now period) weight departure result }
 {
     if weight == 0 {
@@ -215,8 +201,7 @@ pub(crate) fn arrive_by_speeds(
 /// The arrival of a trip that begins its period then, at most `NEVER`.
 fn ride(begin: u64, step: (u64, u64), weight: u64) -> u64
     requires begin { begin ≤ 2 ^ 50 }
-    requires time { step.0 ≤ HORIZON }
-    requires extra { step.1 ≤ 2 ^ 32 }
+    requires step { IsTripStep step }
     requires weight { weight < 2 ^ 32 }
     ensures { result ≡ min (begin + step.0 + weight + step.1) never }
 {
@@ -237,8 +222,7 @@ pub(crate) fn phase_of(period: u64, departure: u64) -> u64
 /// The arrival by trips of an arc of a weight that is left at a departure.
 pub(crate) fn arrive_by_trips(steps: &[(u64, u64)], period: u64, weight: u64, departure: u64) -> u64
     requires trips { AreTrips period steps.now }
-    requires weight { weight < 2 ^ 32 }
-    requires departure { departure ≤ HORIZON }
+    requires range { AreInRange weight departure }
     ensures { IsArrivalByTrips period steps.now weight departure result }
 {
     let phase = phase_of(period, departure);

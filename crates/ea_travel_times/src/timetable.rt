@@ -1,4 +1,6 @@
 ghost use Rattle.std.specs.Prelude.{◌≡◌, ◌≤◌, ◌<◌, ◌^◌, ◌+◌, IsTrue};
+ghost use Rattle.ea_base.specs.declared.timetable.RawKind.TheVariants.{Every};
+ghost use Rattle.ea_travel_times.specs.Answers.{AreInRange};
 ghost use Rattle.ea_travel_times.specs.Timetables.{is_kind, KindAnswers, IsNextTime};
 ghost use Rattle.ea_base.specs.declared.limits.TheConstants.{HORIZON};
 
@@ -41,10 +43,8 @@ impl Timetable {
 
     /// When an arc of this timetable and a weight arrives that is left at a departure, at most HORIZON.
     pub fn arrive(&self, weight: u64, departure: u64) -> u64
-        requires weight { weight < 2 ^ 32 }
-        requires departure { departure ≤ HORIZON }
-        ensures answer { KindAnswers self.now.kind weight departure result }
-        ensures small { result < 2 ^ 50 }
+        requires { AreInRange weight departure }
+        ensures { KindAnswers self.now.kind weight departure result }
     {
         arrive_by(self.kind, weight, departure)
     }
@@ -78,10 +78,8 @@ impl TravelTimes for Timetable {
 /// The arrival of a kind that has no steps.
 pub(crate) fn arrive_by(kind: RawKind, weight: u64, departure: u64) -> u64
     requires kind { IsTrue (is_kind kind) }
-    requires weight { weight < 2 ^ 32 }
-    requires departure { departure ≤ HORIZON }
-    ensures answer { KindAnswers kind weight departure result }
-    ensures small { result < 2 ^ 50 }
+    requires range { AreInRange weight departure }
+    ensures { KindAnswers kind weight departure result }
 {
     match kind {
         RawKind::Plain => departure + weight,
@@ -108,8 +106,7 @@ pub(crate) fn arrive_by(kind: RawKind, weight: u64, departure: u64) -> u64
 
 /// The least time at or after the departure that leaves the offset when divided by the period.
 fn next_time(period: u64, offset: u64, departure: u64) -> u64
-    requires period { period ≤ 2 ^ 32 }
-    requires offset { offset < period }
+    requires kind { IsTrue (is_kind (Every period offset)) }
     requires departure { departure ≤ HORIZON }
     ensures next { IsNextTime period offset departure result }
     ensures small { result < departure + period }

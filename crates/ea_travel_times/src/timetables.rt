@@ -2,12 +2,12 @@ ghost use Rattle.std.specs.Prelude.{◌≡◌, ◌≤◌, ◌<◌, ◌^◌, IfOk
 ghost use Rattle.std.specs.List.{IsAmong};
 ghost use Rattle.ea_base.specs.declared.timetable.RawKind.{RawKind};
 ghost use Rattle.ea_base.specs.declared.limits.TheConstants.{HORIZON};
-ghost use Rattle.ea_travel_times.specs.Answers.{IsQuestion};
+ghost use Rattle.ea_travel_times.specs.Answers.{AreInRange, IsQuestion};
 ghost use Rattle.ea_travel_times.specs.Extremes.{AreExtremes};
 ghost use Rattle.ea_travel_times.specs.Lows.{TimetablesLow};
 ghost use Rattle.ea_travel_times.specs.StepLists.{extremes_in, steps_in};
 ghost use Rattle.ea_travel_times.specs.TimetableLists.{TimetablesAnswer, kind_of};
-ghost use Rattle.ea_travel_times.specs.Timetables.{AreFit, ClassAnswers, IsClass, has_run, is_kind};
+ghost use Rattle.ea_travel_times.specs.Timetables.{AreFit, ClassAnswers, HasKind, IsClass, has_run, is_kind};
 
 use crate::latest_departures::latest_by;
 use crate::latest_steps::latest_by_steps;
@@ -85,8 +85,7 @@ impl Timetables {
 
     /// The kind of a class above 0.
     fn kind_at(&self, class: u32) -> RawKind
-        requires from_one { 0 < class }
-        requires to_last { class ≤ length self.now.list.items }
+        requires { HasKind self.now.list.items class }
         ensures is { kind_of self.now.list.items class ≡ result }
         ensures fits { IsClass (steps_in self.now.steps) result }
     {
@@ -127,11 +126,9 @@ fn arrive_in(
     weight: u64,
     departure: u64,
 ) -> u64
-    requires from_one { 0 < class }
-    requires to_last { class ≤ length list.now }
+    requires kind { HasKind list.now class }
     requires fit { AreFit list.now (steps_in steps.now) }
-    requires weight { weight < 2 ^ 32 }
-    requires departure { departure ≤ HORIZON }
+    requires range { AreInRange weight departure }
     ensures { TimetablesAnswer list.now (steps_in steps.now) class weight departure result }
 {
     arrive_of(steps, list[class as usize - 1], weight, departure)
@@ -151,8 +148,7 @@ fn has_steps(kind: RawKind) -> bool
 #[inline(always)]
 fn arrive_of(steps: &Option<StepTable>, kind: RawKind, weight: u64, departure: u64) -> u64
     requires class { IsClass (steps_in steps.now) kind }
-    requires weight { weight < 2 ^ 32 }
-    requires departure { departure ≤ HORIZON }
+    requires range { AreInRange weight departure }
     ensures { ClassAnswers (steps_in steps.now) kind weight departure result }
 {
     match kind {
@@ -167,8 +163,7 @@ fn arrive_of(steps: &Option<StepTable>, kind: RawKind, weight: u64, departure: u
 #[inline(never)]
 fn arrive_by_steps(steps: &Option<StepTable>, kind: RawKind, weight: u64, departure: u64) -> u64
     requires class { IsClass (steps_in steps.now) kind }
-    requires weight { weight < 2 ^ 32 }
-    requires departure { departure ≤ HORIZON }
+    requires range { AreInRange weight departure }
     ensures { ClassAnswers (steps_in steps.now) kind weight departure result }
 {
     match kind {

@@ -22,8 +22,8 @@ returns-then-turns-begin c =
     let parts = div-add-mod c.args.begin c.args.period in
     let turns : c.div_ceil-turns.result * c.sum_of_period-whole.result < c.args.need + c.sum_of_period-whole.result = rw (c.div_ceil-turns.ensures) round.1 in
     let few = few_turns c.div_ceil-turns.result c.sum_of_period-whole.result c.args.need (c.args.begin / c.args.period) turns c.if-turns-begin.true in
-    let at = sum_at c.args.period c.args.steps.now (c.args.begin / c.args.period) 0 c.args.begin (omega (arith, parts, c.requires.begins)) (omega arith) in
-    let same : (c.args.begin / c.args.period) * c.sum_of_period-whole.result ≡ (c.args.begin / c.args.period) * sum_to c.args.steps.now c.args.period = ap (λ n. (c.args.begin / c.args.period) * n) c.sum_of_period-whole.ensures.is in
+    let at = sum_at c.args.period c.args.steps.now (c.args.begin / c.args.period) 0 c.args.begin (omega (arith, parts, c.requires.begin.begins)) (omega arith) in
+    let same : (c.args.begin / c.args.period) * c.sum_of_period-whole.result ≡ (c.args.begin / c.args.period) * sum_to c.args.steps.now c.args.period = ap (λ n. (c.args.begin / c.args.period) * n) c.sum_of_period-whole.ensures.sum.is in
     omega (arith, few, at, same)
 
 pub returns : goal.returns
@@ -40,11 +40,11 @@ returns c =
     let times = mul-add c.args.period (c.args.begin / c.args.period - c.div_ceil-turns.result) c.div_ceil-turns.result in
     let periods : c.args.period * (c.args.begin / c.args.period - c.div_ceil-turns.result) + c.args.period * c.div_ceil-turns.result ≡ c.args.period * (c.args.begin / c.args.period) = sym times ∙ ap (λ n. c.args.period * n) back in
     let turned = mul_comm c.div_ceil-turns.result c.args.period in
-    let is : c.sum_of_period-whole.result ≡ sum_to c.args.steps.now c.args.period = c.sum_of_period-whole.ensures.is in
+    let is : c.sum_of_period-whole.result ≡ sum_to c.args.steps.now c.args.period = c.sum_of_period-whole.ensures.sum.is in
     let first : (c.args.begin / c.args.period - c.div_ceil-turns.result) * c.sum_of_period-whole.result ≡ (c.args.begin / c.args.period - c.div_ceil-turns.result) * sum_to c.args.steps.now c.args.period = ap (λ n. (c.args.begin / c.args.period - c.div_ceil-turns.result) * n) is in
     let last : (c.args.begin / c.args.period) * c.sum_of_period-whole.result ≡ (c.args.begin / c.args.period) * sum_to c.args.steps.now c.args.period = ap (λ n. (c.args.begin / c.args.period) * n) is in
     let found = last_of_sum c.args.period c.args.steps.now (c.args.begin / c.args.period) 0 c.args.begin c.args.need (c.args.begin / c.args.period - c.div_ceil-turns.result) (c.div_ceil-turns.result * c.sum_of_period-whole.result - c.args.need + 1) c.time_of_sum-time.result
-    (omega (arith, parts, c.requires.begins)) (omega arith) c.requires.need (omega (arith, sums, enough, first, last)) c.time_of_sum-time.ensures.is c.time_of_sum-time.ensures.within in
+    (omega (arith, parts, c.requires.begin.begins)) (omega arith) c.requires.need (omega (arith, sums, enough, first, last)) c.time_of_sum-time.ensures.is c.time_of_sum-time.ensures.within in
     let one = c.time_of_sum-time.ensures.is.from_one in
-    let place : c.args.period * (c.args.begin / c.args.period - c.div_ceil-turns.result) + c.time_of_sum-time.result - 1 ≡ c.args.begin - c.div_ceil-turns.result * c.args.period + c.time_of_sum-time.result - 1 = omega (arith, periods, parts, c.requires.begins, turned, one) in
+    let place : c.args.period * (c.args.begin / c.args.period - c.div_ceil-turns.result) + c.time_of_sum-time.result - 1 ≡ c.args.begin - c.div_ceil-turns.result * c.args.period + c.time_of_sum-time.result - 1 = omega (arith, periods, parts, c.requires.begin.begins, turned, one) in
     subst (λ (t : ℕ). IsLastBySpeeds (speed_at c.args.steps.now c.args.period) c.args.begin c.args.need t) place found

@@ -19,21 +19,13 @@ overflow_sub-sum c =
     ]) in
     omega (arith, left.some_left)
 
-pub time_of_sum-time-requires-clause-from_one : goal.time_of_sum-time-requires-clause-from_one
-time_of_sum-time-requires-clause-from_one c =
+pub time_of_sum-time-requires-clause-sum : goal.time_of_sum-time-requires-clause-sum
+time_of_sum-time-requires-clause-sum c =
     let left = turns_of _ c.args.sum c.if-sum-whole.turns c.sum_of_period-whole.ensures.some c.requires.from_one (elim c.if-sum-whole.branch [
       | then-sum-whole w ↦ inl (w.if-sum-whole.true, w.turns-is)
       | else-sum-whole w ↦ inr w.turns-is
     ]) in
-    omega (arith, left.some_left)
-
-pub time_of_sum-time-requires-clause-to_whole : goal.time_of_sum-time-requires-clause-to_whole
-time_of_sum-time-requires-clause-to_whole c =
-    let left = turns_of _ c.args.sum c.if-sum-whole.turns c.sum_of_period-whole.ensures.some c.requires.from_one (elim c.if-sum-whole.branch [
-      | then-sum-whole w ↦ inl (w.if-sum-whole.true, w.turns-is)
-      | else-sum-whole w ↦ inr w.turns-is
-    ]) in
-    rw (← c.sum_of_period-whole.ensures.is) left.last
+    record { from_one = omega (arith, left.some_left); to_whole = rw (← c.sum_of_period-whole.ensures.sum.is) left.last }
 
 pub returns : goal.returns
 returns c =
@@ -45,8 +37,8 @@ returns c =
     record {
       turns = c.if-sum-whole.turns;
       time = c.time_of_sum-time.result;
-      fits = rw (← c.sum_of_period-whole.ensures.is) fits;
-      in_period = rw (← c.sum_of_period-whole.ensures.is) c.time_of_sum-time.ensures.is;
+      fits = rw (← c.sum_of_period-whole.ensures.sum.is) fits;
+      in_period = rw (← c.sum_of_period-whole.ensures.sum.is) c.time_of_sum-time.ensures.is;
       within = c.time_of_sum-time.ensures.within;
       arrives = c.after_periods.ensures;
     }

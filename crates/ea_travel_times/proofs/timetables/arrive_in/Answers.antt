@@ -5,5 +5,5 @@ use Rattle.ea_travel_times.proofs.timetables.arrive_in.Goals as goal
 
 pub arrive_of-requires-clause-class : goal.arrive_of-requires-clause-class
 arrive_of-requires-clause-class c =
-    let below : c.args.class - 1 < length c.args.list.now = omega (arith, c.requires.to_last, c.requires.from_one) in
+    let below : c.args.class - 1 < length c.args.list.now = omega (arith, c.requires.kind.to_last, c.requires.kind.from_one) in
     class_at c.args.list.now (steps_in c.args.steps.now) (c.args.class - 1) _ c.requires.fit below
