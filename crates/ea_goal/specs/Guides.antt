@@ -7,6 +7,6 @@ use Rattle.ea_hierarchy.specs.declared.bounds.Bounds.{Bounds}
 -- There is room for bounds of this number of nodes.
 pub record HasRoomFor (nodes : ℕ) (bounds : Bounds) : Type 0 where
   pub count : length bounds.cells.list.items ≡ nodes
-  pub stamps : AreReached (bounds.cells.stamp + 1) bounds.cells.list.items
+  pub stamps : AreReached (bounds.cells.aim.stamp + 1) bounds.cells.list.items
   pub path_empty : bounds.path.items ≡ []
   pub path_room : nodes ≤ vec_capacity bounds.path

@@ -1,7 +1,8 @@
 //! The search: first near the sources without bounds, then led by them.
-ghost use Rattle.std.specs.Prelude.{◌≡◌, ◌≢◌, ◌≤◌, ◌<◌, ◌+◌, ◌-◌, ℕ, List, OnOk, [], false, length, replicate};
+ghost use Rattle.std.specs.Prelude.{◌≡◌, ◌≢◌, ◌⊎◌, ◌≤◌, ◌<◌, ◌+◌, ◌-◌, ℕ, List, OnOk, [], false, length, replicate, true};
+ghost use Rattle.std.specs.List.{IsAmong};
 ghost use Rattle.ea_base.specs.declared.limits.TheConstants.{HORIZON};
-ghost use Rattle.ea_hierarchy.specs.Bounds.{IsRoomFor};
+ghost use Rattle.ea_hierarchy.specs.Bounds.{AreBoundsTo, IsRoomFor};
 ghost use Rattle.ea_hierarchy.specs.Preparations.{IsPreparedFor};
 ghost use Rattle.ea_road.specs.Roads.{IsNode, top_class};
 ghost use Rattle.ea_road.specs.declared.TheConstants.{NONE};
@@ -24,6 +25,19 @@ use ea_road::{Network, Source};
 use ea_travel_times::TravelTimes;
 use std::alloc::AllocError;
 use std::mem;
+
+/// The first source; the target, if there is none.
+fn start_of(sources: &[Source], target: u32) -> Source
+    ensures { (result.node ≡ target) ⊎ IsAmong sources.now result }
+{
+    match sources.first() {
+        Some(source) => *source,
+        None => Source {
+            node: target,
+            departure: 0,
+        },
+    }
+}
 
 impl Underway {
     /// Offers the sources their departures.
@@ -55,13 +69,14 @@ impl Underway {
     }
 
     /// Visits open nodes until none is left, or as many were scanned as are near: a near target is then found without the way up the tree.
+    /// Returns the label of the last.
     fn run_near<T: TravelTimes>(
         &mut self,
         network: &Network,
         times: &T,
         prepared: &Prepared,
         target: u32,
-    ) -> Result<(), AllocError>
+    ) -> Result<u64, AllocError>
         requires target { IsNode network.now.nodes target }
         requires nodes { AreOpenNodes network.now.nodes self.old.frontier }
         requires classes { top_class network.now.arcs ≤ T.classes times.now }
@@ -78,14 +93,16 @@ impl Underway {
             self.old.frontier self.new.table.labels.items self.new.frontier) }
     {
         let mut left = prepared.near();
+        let mut last = 0;
         while left > 0 {
             let Some(entry) = self.frontier.take() else {
-                return Ok(());
+                return Ok(last);
             };
+            last = entry.label;
             let is_scanned = self.visit(network, times, prepared, target, entry)?;
             left = left.saturating_sub(u32::from(is_scanned));
         }
-        Ok(())
+        Ok(last)
     }
 
     /// Opens the node of an entry again, if its label is still that of the entry and it isn't beyond the target.
@@ -153,7 +170,8 @@ impl Underway {
         requires classes { top_class network.now.arcs ≤ T.classes times.now }
         requires table { length self.old.table.labels.items ≡ network.now.nodes }
         requires prepared { IsPreparedFor network.now (T.answers times.now) prepared.now }
-        requires room { IsRoomFor prepared.now self.old.potential.bounds }
+        requires bounds { AreBoundsTo prepared.now target self.old.potential.bounds }
+        requires begun { self.old.potential.is_begun ≡ true }
         ensures over { IsPotentialOver prepared.now self.new.potential }
         ensures reached { KeepsReached self.old.table self.new.table }
         ensures led { OnOk result ((sources : List Source)
@@ -163,7 +181,6 @@ impl Underway {
             → IsLedTo network.now (T.answers times.now) sources target
             (label_of self.new.table.labels.items)) }
     {
-        self.potential.begin(prepared, target);
         bounds_are_consistent(network, times, prepared, target, &self.potential.bounds);
         bounds_are_below_each_walk(network, prepared, target, &self.potential.bounds);
         spare.clear();
@@ -198,10 +215,14 @@ impl Underway {
     {
         network.keeps_limits();
         self.begin(network, prepared, sources, target)?;
-        self.run_near(network, times, prepared, target)?;
+        let last = self.run_near(network, times, prepared, target)?;
         if self.frontier.is_empty() {
             return Ok(());
         }
+        let source = start_of(sources, target);
+        let searched = last.saturating_sub(source.departure);
+        self.potential
+            .begin(prepared, source.node, target, searched);
         self.lead_on(network, times, prepared, target, spare)?;
         Ok(())
     }

@@ -5,6 +5,12 @@ ghost use Rattle.ea_goal.specs.Potentials.{IsPotentialOver, potential_of};
 
 use ea_hierarchy::{Bounds, Prepared};
 
+/// How often bounds that end somewhere are tried.
+const LOOKS: u32 = 3;
+
+/// How many times farther each of them ends than the one before.
+const FARTHER: u32 = 4;
+
 /// Bounds of the travel time to the target of a search. Until they are begun, the bound of each node is 0.
 #[derive(Drop)]
 pub(crate) struct Potential {
@@ -27,16 +33,27 @@ impl Potential {
         }
     }
 
-    /// Begins bounds to a target.
-    pub(crate) fn begin(&mut self, prepared: &Prepared, target: u32)
+    /// Begins bounds to a target, from a source that is farther from it than the distance that was searched. Bounds that end at a small
+    /// multiple of that distance come first, since they look at few upward arcs; they serve if the source's bound is nearer.
+    pub(crate) fn begin(&mut self, prepared: &Prepared, source: u32, target: u32, searched: u64)
         requires room { IsRoomFor prepared.now self.old.bounds }
-        requires from_one { 0 < target }
-        requires to_last { target ≤ length prepared.now.ranks }
+        requires source { (0 < source) × (source ≤ length prepared.now.ranks) }
+        requires target { (0 < target) × (target ≤ length prepared.now.ranks) }
         ensures bounds { AreBoundsTo prepared.now target self.new.bounds }
         ensures begun { self.new.is_begun ≡ true }
     {
-        self.bounds.begin(prepared, target);
         self.is_begun = true;
+        let mut far = searched.min(u64::from(u32::MAX)) as u32;
+        for _ in 0..LOOKS {
+            far = far.saturating_mul(FARTHER);
+            self.bounds.begin(prepared, target, far);
+            if let Some(bound) = self.bounds.bound(prepared, source) {
+                if bound < far {
+                    return;
+                }
+            }
+        }
+        self.bounds.begin(prepared, target, u32::MAX);
     }
 
     /// The bound of the travel time from a node to the target; none if no walk leads there.

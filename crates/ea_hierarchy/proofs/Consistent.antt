@@ -20,7 +20,7 @@ use Rattle.ea_hierarchy.proofs.Sums.{plus_finite, plus_grows}
 
 module _ (roads : Roads) (network : IsNetwork roads) (hierarchy : Hierarchy) (is : IsHierarchy hierarchy) (nodes_are : length hierarchy.firsts ≡ roads.nodes + 1) (target : ℕ) (target_from : 0 < target) (target_to : target ≤ roads.nodes) (bounds : Bounds) (are : AreBoundsTo hierarchy target bounds) where
   abbrev reach : ℕ → ℕ
-  reach = reach_of bounds.cells.stamp bounds.cells.list.items
+  reach = reach_of bounds.cells.aim bounds.cells.list.items
 
   abbrev count : ℕ
   count = length hierarchy.firsts - 1

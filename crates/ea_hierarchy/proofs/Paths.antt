@@ -6,6 +6,7 @@ use Rattle.std.proofs.lemmas.Bool.Decides.{leb_tells}
 use Rattle.std.proofs.lemmas.List.{get_or_push}
 use Rattle.ea_hierarchy.specs.Cells.{AreFound, FindsMore, IsFinal, IsLowest, IsPath, IsTopFound, IsWayFrom}
 use Rattle.ea_hierarchy.specs.Hierarchies.{IsFrom, IsUpward}
+use Rattle.ea_hierarchy.specs.declared.cells.Aim.{Aim}
 use Rattle.ea_hierarchy.specs.declared.cells.Cell.{Cell}
 
 -- a path so far, and the rank that comes next
@@ -73,37 +74,37 @@ module _ (firsts heads path : List ℕ) (rank at : ℕ) (climbs : Climbs firsts 
   }
 
   -- the next rank's bound is found
-  pub top_found : (stamp : ℕ) (list : List Cell) → IsFinal stamp list at → IsTopFound firsts heads stamp list path
-  top_found stamp list is parent some lowest = subst (λ n. IsFinal stamp list n) (one_parent firsts heads (slice_index path (length path - 1)) at parent (climbs.next some) lowest) is
+  pub top_found : (aim : Aim) (list : List Cell) → IsFinal aim list at → IsTopFound firsts heads aim list path
+  top_found aim list is parent some lowest = subst (λ n. IsFinal aim list n) (one_parent firsts heads (slice_index path (length path - 1)) at parent (climbs.next some) lowest) is
 
-  pub way_found : (stamp : ℕ) (list : List Cell) → IsFinal stamp list at → IsWayFrom stamp list path rank
-  way_found stamp list is = elim climbs.begin [
-    | inl none ↦ inl (subst (λ n. IsFinal stamp list n) none.1 is)
+  pub way_found : (aim : Aim) (list : List Cell) → IsFinal aim list at → IsWayFrom aim list path rank
+  way_found aim list is = elim climbs.begin [
+    | inl none ↦ inl (subst (λ n. IsFinal aim list n) none.1 is)
     | inr some ↦ inr some
   ]
 
   -- the next rank is the highest
-  pub top_ends : (stamp : ℕ) (list : List Cell) → slice_index firsts (at + 1) ≤ slice_index firsts at → IsTopFound firsts heads stamp list (path ++ at ∷ [])
-  top_ends stamp list none parent some lowest =
+  pub top_ends : (aim : Aim) (list : List Cell) → slice_index firsts (at + 1) ≤ slice_index firsts at → IsTopFound firsts heads aim list (path ++ at ∷ [])
+  top_ends aim list none parent some lowest =
       let here : IsLowest firsts heads at parent = subst (λ n. IsLowest firsts heads n parent) last_is lowest in
       absurd (omega (arith, here.some, none))
 
-  pub way_begins : (stamp : ℕ) (list : List Cell) → IsWayFrom stamp list (path ++ at ∷ []) rank
-  way_begins stamp list = inr (omega (arith, long), begins_at)
+  pub way_begins : (aim : Aim) (list : List Cell) → IsWayFrom aim list (path ++ at ∷ []) rank
+  way_begins aim list = inr (omega (arith, long), begins_at)
 
 -- ---- down
 
 -- the bounds of all heads of a rank are found, if that of the lowest is
-pub heads_found : (firsts heads ups : List ℕ) (stamp : ℕ) (list : List Cell) (rank : ℕ) → IsUpward (length firsts - 1) firsts heads → AreFound firsts heads ups stamp list → rank < length firsts - 1
-    → ((parent : ℕ) → IsLowest firsts heads rank parent → IsFinal stamp list parent) → (place : ℕ) → IsFrom firsts rank place → IsFinal stamp list (slice_index heads place)
-heads_found firsts heads ups stamp list rank are found below top place is = elim (leb_tells place (slice_index firsts rank)) [
+pub heads_found : (firsts heads ups : List ℕ) (aim : Aim) (list : List Cell) (rank : ℕ) → IsUpward (length firsts - 1) firsts heads → AreFound firsts heads ups aim list → rank < length firsts - 1
+    → ((parent : ℕ) → IsLowest firsts heads rank parent → IsFinal aim list parent) → (place : ℕ) → IsFrom firsts rank place → IsFinal aim list (slice_index heads place)
+heads_found firsts heads ups aim list rank are found below top place is = elim (leb_tells place (slice_index firsts rank)) [
   | inl first ↦
       let same : place ≡ slice_index firsts rank = omega (arith, first.1, is.from) in
-      subst (λ n. IsFinal stamp list (slice_index heads n)) (sym same) lowest_found
+      subst (λ n. IsFinal aim list (slice_index heads n)) (sym same) lowest_found
   | inr later ↦
       let third = are.chordal rank (slice_index firsts rank) place below lowest is later.1 in
       let up = are.upward rank (slice_index firsts rank) below lowest in
-      subst (λ n. IsFinal stamp list n) third.1.head (found.closed (slice_index heads (slice_index firsts rank)) third.0 up.1 lowest_found third.1.is_from)
+      subst (λ n. IsFinal aim list n) third.1.head (found.closed (slice_index heads (slice_index firsts rank)) third.0 up.1 lowest_found third.1.is_from)
 ]
   where
     some : slice_index firsts rank < slice_index firsts (rank + 1)
@@ -112,7 +113,7 @@ heads_found firsts heads ups stamp list rank are found below top place is = elim
     lowest : IsFrom firsts rank (slice_index firsts rank)
     lowest = record { from = omega arith; before = some }
 
-    lowest_found : IsFinal stamp list (slice_index heads (slice_index firsts rank))
+    lowest_found : IsFinal aim list (slice_index heads (slice_index firsts rank))
     lowest_found = top (slice_index heads (slice_index firsts rank)) (record { some = some; is = refl })
 
 module _ (firsts heads path rest : List ℕ) (last : ℕ) (popped : path ≡ rest ++ last ∷ []) where
@@ -137,29 +138,29 @@ module _ (firsts heads path rest : List ℕ) (last : ℕ) (popped : path ≡ res
   pub last_below : IsPath firsts heads path → last < length firsts - 1
   last_below is = let low = is.below (length path - 1) (omega (arith, size)) in omega (arith, low, is_last)
 
-  pub parent_found : (stamp : ℕ) (list : List Cell) → IsTopFound firsts heads stamp list path → (parent : ℕ) → IsLowest firsts heads last parent → IsFinal stamp list parent
-  parent_found stamp list top parent lowest = top parent (omega (arith, size)) (subst (λ n. IsLowest firsts heads n parent) (sym is_last) lowest)
+  pub parent_found : (aim : Aim) (list : List Cell) → IsTopFound firsts heads aim list path → (parent : ℕ) → IsLowest firsts heads last parent → IsFinal aim list parent
+  parent_found aim list top parent lowest = top parent (omega (arith, size)) (subst (λ n. IsLowest firsts heads n parent) (sym is_last) lowest)
 
   -- once the last rank's bound is found
-  pub top_next : (stamp : ℕ) (list : List Cell) → IsPath firsts heads path → IsFinal stamp list last → IsTopFound firsts heads stamp list rest
-  top_next stamp list is found parent some lowest =
+  pub top_next : (aim : Aim) (list : List Cell) → IsPath firsts heads path → IsFinal aim list last → IsTopFound firsts heads aim list rest
+  top_next aim list is found parent some lowest =
       let place : ℕ = length rest - 1 in
       let one = same_at place (omega (arith, some)) in
       let next : slice_index path (place + 1) ≡ last = ap (slice_index path) (omega (arith, some, size)) ∙ is_last in
       let has : IsLowest firsts heads (slice_index rest place) last = subst (λ n. IsLowest firsts heads n last) one (subst (λ n. IsLowest firsts heads (slice_index path place) n) next (is.parents place (omega (arith, some, size)))) in
-      subst (λ n. IsFinal stamp list n) (one_parent firsts heads (slice_index rest place) last parent has lowest) found
+      subst (λ n. IsFinal aim list n) (one_parent firsts heads (slice_index rest place) last parent has lowest) found
 
-  pub way_next : (stamp : ℕ) (list after : List Cell) (rank : ℕ) → FindsMore stamp list after → IsFinal stamp after last → IsWayFrom stamp list path rank → IsWayFrom stamp after rest rank
-  way_next stamp list after rank finds found (inl is) = inl (finds.kept rank is)
-  way_next stamp list after rank finds found (inr from) = elim (leb_tells 1 (length rest)) [
+  pub way_next : (aim : Aim) (list after : List Cell) (rank : ℕ) → FindsMore aim list after → IsFinal aim after last → IsWayFrom aim list path rank → IsWayFrom aim after rest rank
+  way_next aim list after rank finds found (inl is) = inl (finds.kept rank is)
+  way_next aim list after rank finds found (inr from) = elim (leb_tells 1 (length rest)) [
     | inl some ↦ inr (some.1, sym (same_at 0 some.1) ∙ from.1)
     | inr none ↦
         let same : last ≡ rank = sym is_last ∙ ap (slice_index path) (omega (arith, none.1, size)) ∙ from.1 in
-        inl (subst (λ n. IsFinal stamp after n) same found)
+        inl (subst (λ n. IsFinal aim after n) same found)
   ]
 
-pub finds_then : (stamp : ℕ) (list middle after : List Cell) → FindsMore stamp list middle → FindsMore stamp middle after → FindsMore stamp list after
-finds_then stamp list middle after one two = record { reach = λ rank. two.reach rank ∙ one.reach rank; kept = λ rank is. two.kept rank (one.kept rank is) }
+pub finds_then : (aim : Aim) (list middle after : List Cell) → FindsMore aim list middle → FindsMore aim middle after → FindsMore aim list after
+finds_then aim list middle after one two = record { reach = λ rank. two.reach rank ∙ one.reach rank; kept = λ rank is. two.kept rank (one.kept rank is) }
 
-pub finds_none : (stamp : ℕ) (list : List Cell) → FindsMore stamp list list
-finds_none stamp list = record { reach = λ rank. refl; kept = λ rank is. is }
+pub finds_none : (aim : Aim) (list : List Cell) → FindsMore aim list list
+finds_none aim list = record { reach = λ rank. refl; kept = λ rank is. is }

@@ -12,6 +12,11 @@ pub plus_grows : (a b c d : ℕ) → a ≤ c → b ≤ d → plus a b ≤ plus c
 unfolding plus
 plus_grows a b c d left right = grind (arith, nat_tests)
 
+-- a sum is no less than what its first number is no less than
+pub plus_first : (least a b : ℕ) → least ≤ NONE → least ≤ a → least ≤ plus a b
+unfolding plus
+plus_first least a b few to = grind (arith, nat_tests, few, to)
+
 pub plus_through : (p g q d u : ℕ) → p ≤ plus g q → g ≤ plus d u → p ≤ plus d (plus u q)
 unfolding plus
 plus_through p g q d u whole part = grind (arith, nat_tests)

@@ -4,13 +4,16 @@ use Rattle.std.proofs.lemmas.Bool.Decides.{leb_tells}
 use Rattle.std.specs.Prelude.{slice_index, slice_index_or}
 use Rattle.std.proofs.lemmas.List.{get_or-set_other, get_or_default, length-set}
 use Rattle.std.proofs.lemmas.List.Elements.{Contains-append_left, Contains-push, Contains-push_cases}
+use Rattle.std.specs.List.Sorted.{IsPermutation}
+use Rattle.std.proofs.lemmas.List.Sorted.{Contains-permutation, IsPermutation-sym}
 use Rattle.ea_hierarchy.specs.Hierarchies.{IsFrom, IsUpward}
 use Rattle.ea_hierarchy.specs.Numbers.{plus}
-use Rattle.ea_hierarchy.specs.Trimmed.{AreMarked, IsLeastBy, IsLink, IsReplaced, IsTrimmed}
+use Rattle.ea_hierarchy.specs.Trimmed.{AreAscending, AreMarked, IsLeastBy, IsLink, IsReplaced, IsTrimmed}
 use Rattle.ea_hierarchy.specs.declared.trimmed.Link.{Link}
+use Rattle.ea_hierarchy.specs.declared.numbers.TheConstants.{NONE}
 use Rattle.ea_hierarchy.proofs.Potential.{attained, to_arc, to_reach, worth}
 use Rattle.ea_hierarchy.proofs.Reaching.{same_or_not}
-use Rattle.ea_hierarchy.proofs.Sums.{plus_over}
+use Rattle.ea_hierarchy.proofs.Sums.{plus_first, plus_over}
 
 -- one more arc has a mark
 pub marked_more : (firsts heads numbers : List ℕ) (rank later : ℕ) (marks : List Bool) → AreMarked firsts heads numbers rank marks → IsFrom firsts rank later → IsReplaced firsts heads numbers rank later → AreMarked firsts heads numbers rank (set marks (later - slice_index firsts rank) true)
@@ -59,11 +62,12 @@ gathered_more firsts heads numbers rank marks links to is are = record {
   ];
 }
 
-pub trimmed_of : (firsts heads numbers : List ℕ) (rank : ℕ) (marks : List Bool) (links : List Link) → AreMarked firsts heads numbers rank marks → AreGathered firsts heads numbers rank marks links (slice_index firsts (rank + 1)) → IsTrimmed firsts heads numbers rank links
-trimmed_of firsts heads numbers rank marks links marked are = record {
-  arcs = are.arcs;
+pub trimmed_of : (firsts heads numbers : List ℕ) (rank : ℕ) (marks : List Bool) (links sorted : List Link) → AreMarked firsts heads numbers rank marks → AreGathered firsts heads numbers rank marks links (slice_index firsts (rank + 1)) → IsPermutation links sorted → AreAscending sorted → IsTrimmed firsts heads numbers rank sorted
+trimmed_of firsts heads numbers rank marks links sorted marked are moved ascending = record {
+  ascending = ascending;
+  arcs = λ link there. are.arcs link (Contains-permutation sorted links link (IsPermutation-sym links sorted moved) there);
   rest = λ place from. elim (are.rest place from from.before) [
-    | inl there ↦ inl there
+    | inl there ↦ inl (Contains-permutation links sorted (link_at heads numbers place) moved there)
     | inr is ↦ inr (marked.replaced place from is)
   ];
 }
@@ -95,6 +99,19 @@ so_far_more bound links reach least count value link inside at is so_far = recor
     ]
     | inr falls ↦ inr (link, (count, inside, at), omega (arith, falls.1, is))
   ];
+}
+
+-- the links from one on, all of which are above the least so far
+pub so_far_ends : (bound : ℕ → ℕ) (links : List Link) (reach least count : ℕ) (link : Link) → AreAscending links → count < length links → slice_index_or links count link ≡ link → least ≤ NONE → least ≤ link.number → IsLeastSoFar bound links reach least count → IsLeastSoFar bound links reach least (length links)
+so_far_ends bound links reach least count link ascending inside at few above so_far = record {
+  to_reach = so_far.to_reach;
+  to_each = λ k other before. elim (leb_tells count k) [
+    | inl later ↦
+        let higher : link.number ≤ (slice_index_or links k other).number = omega (arith, ascending count k other later.1 before, ap (λ (l : Link). l.number) (get_or_default links count other link inside ∙ at)) in
+        plus_first least (slice_index_or links k other).number (bound (slice_index_or links k other).head) few (omega (arith, above, higher))
+    | inr earlier ↦ so_far.to_each k other earlier.1
+  ];
+  is_one = so_far.is_one;
 }
 
 pub least_of : (bound : ℕ → ℕ) (links : List Link) (reach least : ℕ) → IsLeastSoFar bound links reach least (length links) → IsLeastBy bound links reach least

@@ -12,23 +12,23 @@ use Rattle.ea_hierarchy.specs.declared.numbers.TheConstants.{NONE}
 -- There is room for bounds over a preparation.
 pub record IsRoomFor (hierarchy : Hierarchy) (bounds : Bounds) : Type 0 where
   pub count : length bounds.cells.list.items ≡ length hierarchy.firsts - 1
-  pub stamps : AreReached (bounds.cells.stamp + 1) bounds.cells.list.items
+  pub stamps : AreReached (bounds.cells.aim.stamp + 1) bounds.cells.list.items
   pub path_empty : bounds.path.items ≡ []
   pub path_room : length hierarchy.firsts - 1 ≤ vec_capacity bounds.path
 
 -- The bounds that were found are those of the preparation.
 pub record AreBoundsOver (hierarchy : Hierarchy) (bounds : Bounds) : Type 0 where
   pub room : IsRoomFor hierarchy bounds
-  pub found : AreFound hierarchy.firsts hierarchy.heads hierarchy.ups bounds.cells.stamp bounds.cells.list.items
+  pub found : AreFound hierarchy.firsts hierarchy.heads hierarchy.ups bounds.cells.aim bounds.cells.list.items
 
 -- And they are bounds of the travel time to a target.
 pub record AreBoundsTo (hierarchy : Hierarchy) (target : ℕ) (bounds : Bounds) : Type 0 where
   pub over : AreBoundsOver hierarchy bounds
-  pub reach : IsReach (length hierarchy.firsts - 1) hierarchy.firsts hierarchy.heads hierarchy.downs (rank_of hierarchy.ranks target) (reach_of bounds.cells.stamp bounds.cells.list.items)
+  pub reach : IsReach (length hierarchy.firsts - 1) hierarchy.firsts hierarchy.heads hierarchy.downs (rank_of hierarchy.ranks target) (reach_of bounds.cells.aim bounds.cells.list.items)
 
 -- The bound of a node, NONE if no walk leads to the target.
 abbrev pub bound_of : Hierarchy → Bounds → ℕ → ℕ
-bound_of hierarchy bounds node = worth_of hierarchy.firsts hierarchy.heads hierarchy.ups bounds.cells.stamp bounds.cells.list.items (rank_of hierarchy.ranks node)
+bound_of hierarchy bounds node = worth_of hierarchy.firsts hierarchy.heads hierarchy.ups bounds.cells.aim bounds.cells.list.items (rank_of hierarchy.ranks node)
 
 -- What a caller learns.
 abbrev pub told : ℕ → Option ℕ

@@ -1,5 +1,6 @@
 -- Upward arcs that two others replace, and rows of those that are left.
 use Rattle.std.specs.Prelude.{◌≡◌, ◌⊎◌, ℕ, ◌+◌, ◌-◌, ◌<◌, ◌≤◌, List, Bool, Contains, length, slice_index, slice_index_or, true, false}
+use Rattle.std.specs.List.Sorted.{IsNonDecreasingBy}
 use Rattle.ea_hierarchy.specs.Hierarchies.{IsFrom, Joins}
 use Rattle.ea_hierarchy.specs.Numbers.{plus}
 use Rattle.ea_hierarchy.specs.declared.trimmed.Link.{Link}
@@ -26,14 +27,19 @@ pub record IsLink (firsts heads numbers : List ℕ) (rank : ℕ) (link : Link) :
   pub head : slice_index heads place ≡ link.head
   pub number : slice_index numbers place ≡ link.number
 
--- Links are arcs of a rank, and each other arc of it is replaced.
+-- Links by ascending numbers.
+abbrev pub AreAscending : List Link → Type 0
+AreAscending links = IsNonDecreasingBy (λ (link : Link). link.number) links
+
+-- Links are arcs of a rank, by ascending numbers, and each other arc of it is replaced.
 pub record IsTrimmed (firsts heads numbers : List ℕ) (rank : ℕ) (links : List Link) : Type 0 where
+  pub ascending : AreAscending links
   pub arcs : (link : Link) → Contains links link → IsLink firsts heads numbers rank link
   pub rest : (place : ℕ) → IsFrom firsts rank place → Contains links (record { head = slice_index heads place; number = slice_index numbers place }) ⊎ IsReplaced firsts heads numbers rank place
 
 -- Each row has the arcs that are left of its rank.
-abbrev pub AreTrimmed : List ℕ → List ℕ → List ℕ → List Row → Type 0
-AreTrimmed firsts heads numbers rows = (row : Row) → Contains rows row → IsTrimmed firsts heads numbers row.rank row.links.items
+pub record AreTrimmed (firsts heads numbers : List ℕ) (rows : List Row) : Type 0 where
+  pub each : (row : Row) → Contains rows row → IsTrimmed firsts heads numbers row.rank row.links.items
 
 -- A number is the least of another and of those over links.
 pub record IsLeastBy (bound : ℕ → ℕ) (links : List Link) (reach least : ℕ) : Type 0 where

@@ -25,8 +25,10 @@ impl Bounds {
         Ok(Bounds { cells, path })
     }
 
-    /// Bounds to another target. Takes time in proportion to the upward arcs on the target's path.
-    pub fn begin(&mut self, prepared: &Prepared, target: u32)
+    /// Bounds to another target. All nodes that are farther from it than `far` have this as their bound, so that a search for a near target
+    /// looks at few upward arcs; with `u32::MAX` each bound is as great as the preparation knows. Takes time in proportion to the upward
+    /// arcs on the target's path up to there.
+    pub fn begin(&mut self, prepared: &Prepared, target: u32, far: u32)
         requires room { IsRoomFor prepared.now self.old }
         requires from_one { 0 < target }
         requires to_last { target ≤ length prepared.now.ranks }
@@ -38,6 +40,7 @@ impl Bounds {
             &prepared.numbers,
             &prepared.trimmed_downs,
             rank,
+            far,
         );
     }
 
@@ -61,7 +64,7 @@ impl Bounds {
             &prepared.trimmed_ups,
             &mut self.path,
         );
-        let bound = self.cells.list[rank as usize].bound;
+        let bound = self.cells.bound(rank);
         if bound == NONE { None } else { Some(bound) }
     }
 }

@@ -1,7 +1,8 @@
 //! What is known of each rank for one target.
-ghost use Rattle.std.specs.Prelude.{◌≡◌, ◌≤◌, ◌<◌, ◌+◌, ◌-◌, ◌^◌, ℕ, Contains, IfOk, [], length, slice_index};
+ghost use Rattle.std.specs.Prelude.{◌≡◌, ◌≤◌, ◌<◌, ◌+◌, ◌-◌, ◌^◌, ℕ, Contains, IfOk, [], length, slice_index, true};
 ghost use Rattle.std.specs.Vec.{vec_capacity};
 ghost use Rattle.ea_hierarchy.specs.Hierarchies.{AreNumbers, AreUpward, IsFrom};
+ghost use Rattle.ea_hierarchy.specs.declared.numbers.TheConstants.{NONE};
 
 use crate::customize::Numbers;
 use crate::numbers::{NONE, plus};
@@ -20,22 +21,33 @@ pub(crate) struct Cell {
 /// The greatest stamp of cells: that of a cell is one more at most.
 const MOST_STAMP: u32 = 4_294_967_280;
 
-/// The cells of all ranks. The stamp is raised for each target, so that none has to be cleared.
+/// What cells are found for. The stamp is raised for each target, so that no cell has to be cleared.
+#[derive(Clone, Copy)]
+pub(crate) struct Aim {
+    pub(crate) stamp: u32,
+    /// Where the look ends: all that is farther from the target counts as this far.
+    pub(crate) far: u32,
+    /// The highest rank that is reached within.
+    pub(crate) top: u32,
+}
+
+/// The cells of all ranks.
 #[derive(Drop)]
 pub(crate) struct Cells {
-    pub(crate) stamp: u32,
+    pub(crate) aim: Aim,
     pub(crate) list: Vec<Cell>,
 }
 
 impl Cells {
-    ghost use Rattle.ea_hierarchy.specs.Cells.{AreFound, AreReached, AreStale, FindsMore, IsBegun, IsFinal, IsPath, IsTopFound, IsWayFrom, LowersReach, RelaxesLinks, RelaxesReach, cell_at, reach_of, worth_of};
-    ghost use Rattle.ea_hierarchy.specs.Trimmed.{AreTrimmed, IsLeastBy};
+    ghost use Rattle.ea_hierarchy.specs.Cells.{AreFound, AreReached, AreStale, AreWithin, FindsMore, IsBegun, IsFinal, IsHighest, IsPath, IsSameAbove, IsTopFound, IsWayFrom, LowersReach, RelaxesLinks, RelaxesReach, bound_at, reach_of, worth_of};
+    ghost use Rattle.ea_hierarchy.specs.Potentials.{IsReach};
+    ghost use Rattle.ea_hierarchy.specs.Trimmed.{AreAscending, AreTrimmed, IsLeastBy};
     ghost use Rattle.ea_hierarchy.specs.declared.trimmed.Link.{Link};
 
     /// Stale cells of this many ranks.
     pub(crate) fn new(alloc: Global, ranks: usize) -> Result<Cells, AllocError>
         ensures count { IfOk result (λ cells. length cells.list.items ≡ ranks) }
-        ensures stamps { IfOk result (λ cells. AreReached (cells.stamp + 1) cells.list.items) }
+        ensures stamps { IfOk result (λ cells. AreReached (cells.aim.stamp + 1) cells.list.items) }
     {
         let cell = Cell {
             stamp: 0,
@@ -43,18 +55,24 @@ impl Cells {
             bound: NONE,
         };
         let list = vec![in alloc; cell; ranks]?;
-        Ok(Cells { stamp: 1, list })
+        let aim = Aim {
+            stamp: 1,
+            far: NONE,
+            top: 0,
+        };
+        Ok(Cells { aim, list })
     }
 
-    /// Makes all cells stale.
-    fn raise(&mut self)
-        requires { AreReached (self.old.stamp + 1) self.old.list.items }
+    /// Makes all cells stale, for a look that ends this far from its target.
+    fn raise(&mut self, far: u32)
+        requires { AreReached (self.old.aim.stamp + 1) self.old.list.items }
         ensures count { length self.new.list.items ≡ length self.old.list.items }
-        ensures stale { AreStale self.new.stamp self.new.list.items }
-        ensures stamp { self.new.stamp ≤ 4294967282 }
+        ensures stale { AreStale self.new.aim.stamp self.new.list.items }
+        ensures aim { (self.new.aim.stamp ≤ 4294967282) × (self.new.aim.far ≡ far) }
     {
-        if self.stamp <= MOST_STAMP {
-            self.stamp += 2;
+        self.aim.far = far;
+        if self.aim.stamp <= MOST_STAMP {
+            self.aim.stamp += 2;
             return;
         }
         self.list.fill(Cell {
@@ -62,71 +80,101 @@ impl Cells {
             reach: NONE,
             bound: NONE,
         });
-        self.stamp = 1;
+        self.aim.stamp = 1;
     }
 
     /// What is reached at a rank.
     fn reach(&self, rank: u32) -> u32
         requires { rank < length self.now.list.items }
-        ensures { result ≡ reach_of self.now.stamp self.now.list.items rank }
+        ensures { result ≡ reach_of self.now.aim self.now.list.items rank }
     {
         let cell = self.list[rank as usize];
-        if self.stamp <= cell.stamp {
+        if self.aim.stamp <= cell.stamp {
             cell.reach
         } else {
-            NONE
+            self.aim.far
         }
     }
 
     /// Reaches a rank by this number at the latest.
     fn lower(&mut self, rank: u32, reach: u32)
         requires { rank < length self.old.list.items }
-        ensures stamp { self.new.stamp ≡ self.old.stamp }
-        ensures lowers { LowersReach self.old.stamp self.old.list.items self.new.list.items
+        ensures aim { self.new.aim ≡ self.old.aim }
+        ensures lowers { LowersReach self.old.aim self.old.list.items self.new.list.items
             rank reach }
     {
         let least = self.reach(rank).min(reach);
         self.list[rank as usize] = Cell {
-            stamp: self.stamp,
+            stamp: self.aim.stamp,
             reach: least,
             bound: NONE,
         };
     }
 
-    /// Reaches the heads of a rank over all its arcs.
-    fn relax_arcs(&mut self, upward: &Upward, numbers: &Numbers, rank: u32)
+    /// The same, unless the number is beyond where the look ends. Returns the highest of the ranks that were reached so far.
+    fn lower_within(&mut self, rank: u32, reach: u32, highest: u32) -> u32
+        requires rank { rank < length self.old.list.items }
+        requires within { AreWithin self.old.aim self.old.list.items }
+        ensures aim { self.new.aim ≡ self.old.aim }
+        ensures lowers { LowersReach self.old.aim self.old.list.items self.new.list.items
+            rank reach }
+        ensures above { IsSameAbove self.old.aim self.old.list.items self.new.list.items
+            highest result }
+    {
+        if reach >= self.aim.far {
+            return highest;
+        }
+        self.lower(rank, reach);
+        highest.max(rank)
+    }
+
+    /// Reaches the heads of a rank over all its arcs. Returns the highest that it reached within.
+    fn relax_arcs(&mut self, upward: &Upward, numbers: &Numbers, rank: u32) -> u32
         requires upward { AreUpward upward.now.firsts.items upward.now.heads.items }
         requires numbers { AreNumbers upward.now.heads.items numbers.now.ups.items
             numbers.now.downs.items }
         requires rank { rank < length upward.now.firsts.items - 1 }
         requires count { length self.old.list.items ≡ length upward.now.firsts.items - 1 }
-        ensures stamp { self.new.stamp ≡ self.old.stamp }
+        requires within { AreWithin self.old.aim self.old.list.items }
+        ensures aim { self.new.aim ≡ self.old.aim }
         ensures relaxes { RelaxesReach upward.now.firsts.items upward.now.heads.items
-            numbers.now.downs.items self.old.stamp self.old.list.items self.new.list.items rank
-            (slice_index upward.now.firsts.items (rank + 1)) }
+            numbers.now.downs.items self.old.aim self.old.list.items self.new.list.items rank
+            (slice_index upward.now.firsts.items (rank + 1)) result }
     {
         let reach = self.reach(rank);
         let begin = upward.firsts[rank as usize] as usize;
         let end = upward.firsts[rank as usize + 1] as usize;
+        let mut highest = 0;
         for place in begin..end {
-            self.lower(upward.heads[place], plus(numbers.downs[place], reach));
+            let sum = plus(numbers.downs[place], reach);
+            highest = self.lower_within(upward.heads[place], sum, highest);
         }
+        highest
     }
 
-    /// Reaches the heads of links from what is reached at their rank.
-    fn relax_links(&mut self, links: &[Link], reach: u32)
-        requires { (link : Link) → Contains links.now link → link.head < length self.old.list.items }
-        ensures stamp { self.new.stamp ≡ self.old.stamp }
-        ensures relaxes { RelaxesLinks self.old.stamp self.old.list.items self.new.list.items
-            links.now reach (length links.now) }
+    /// Reaches the heads of links from what is reached at their rank. Returns the highest that it reached within.
+    fn relax_links(&mut self, links: &[Link], reach: u32) -> u32
+        requires links { (link : Link) → Contains links.now link
+            → link.head < length self.old.list.items }
+        requires ascending { AreAscending links.now }
+        requires within { AreWithin self.old.aim self.old.list.items }
+        ensures aim { self.new.aim ≡ self.old.aim }
+        ensures relaxes { RelaxesLinks self.old.aim self.old.list.items self.new.list.items
+            links.now reach (length links.now) result }
     {
+        let mut highest = 0;
         for link in links {
-            self.lower(link.head, plus(link.number, reach));
+            let sum = plus(link.number, reach);
+            if sum >= self.aim.far {
+                return highest;
+            }
+            highest = self.lower_within(link.head, sum, highest);
         }
+        highest
     }
 
-    /// Reaches the heads of a rank over those of its arcs that are left.
-    fn relax(&mut self, upward: &Upward, numbers: &Numbers, trimmed: &Trimmed, rank: u32)
+    /// Reaches the heads of a rank over those of its arcs that are left. Returns the highest that it reached within.
+    fn relax(&mut self, upward: &Upward, numbers: &Numbers, trimmed: &Trimmed, rank: u32) -> u32
         requires upward { AreUpward upward.now.firsts.items upward.now.heads.items }
         requires numbers { AreNumbers upward.now.heads.items numbers.now.ups.items
             numbers.now.downs.items }
@@ -134,27 +182,72 @@ impl Cells {
             numbers.now.downs.items trimmed.now.rows.items }
         requires rank { rank < length upward.now.firsts.items - 1 }
         requires count { length self.old.list.items ≡ length upward.now.firsts.items - 1 }
-        ensures stamp { self.new.stamp ≡ self.old.stamp }
+        requires within { AreWithin self.old.aim self.old.list.items }
+        ensures aim { self.new.aim ≡ self.old.aim }
         ensures relaxes { RelaxesReach upward.now.firsts.items upward.now.heads.items
-            numbers.now.downs.items self.old.stamp self.old.list.items self.new.list.items rank
-            (slice_index upward.now.firsts.items (rank + 1)) }
+            numbers.now.downs.items self.old.aim self.old.list.items self.new.list.items rank
+            (slice_index upward.now.firsts.items (rank + 1)) result }
     {
+        let reach = self.reach(rank);
+        if reach >= self.aim.far {
+            return 0;
+        }
         match trimmed.links(upward, rank) {
-            Some(links) => {
-                let reach = self.reach(rank);
-                self.relax_links(links, reach);
-            }
+            Some(links) => self.relax_links(links, reach),
             None => self.relax_arcs(upward, numbers, rank),
         }
     }
 
-    /// Reaches ranks downward from a target, on its path of lowest heads.
+    /// Reaches ranks downward from a target, on its path of lowest heads. Returns the highest that is reached within.
+    fn reach_up(
+        &mut self,
+        upward: &Upward,
+        numbers: &Numbers,
+        trimmed: &Trimmed,
+        target: u32,
+    ) -> u32
+        requires upward { AreUpward upward.now.firsts.items upward.now.heads.items }
+        requires numbers { AreNumbers upward.now.heads.items numbers.now.ups.items
+            numbers.now.downs.items }
+        requires trimmed { AreTrimmed upward.now.firsts.items upward.now.heads.items
+            numbers.now.downs.items trimmed.now.rows.items }
+        requires target { target < length upward.now.firsts.items - 1 }
+        requires count { length self.old.list.items ≡ length upward.now.firsts.items - 1 }
+        requires stale { AreStale self.old.aim.stamp self.old.list.items }
+        requires few { self.old.aim.far ≤ NONE }
+        ensures aim { self.new.aim ≡ self.old.aim }
+        ensures count { length self.new.list.items ≡ length self.old.list.items }
+        ensures reached { AreReached self.new.aim.stamp self.new.list.items }
+        ensures above { IsHighest self.new.aim self.new.list.items result }
+        ensures reach { IsReach (length upward.now.firsts.items - 1) upward.now.firsts.items
+            upward.now.heads.items numbers.now.downs.items target
+            (reach_of self.new.aim self.new.list.items) }
+    {
+        self.lower(target, 0);
+        let mut rank = target;
+        let mut top = target;
+        loop {
+            let highest = self.relax(upward, numbers, trimmed, rank);
+            top = top.max(highest);
+            let first = upward.firsts[rank as usize];
+            if first >= upward.firsts[rank as usize + 1] {
+                return top;
+            }
+            rank = upward.heads[first as usize];
+            if rank > top {
+                return top;
+            }
+        }
+    }
+
+    /// Reaches ranks downward from a target, no farther than this.
     pub(crate) fn begin(
         &mut self,
         upward: &Upward,
         numbers: &Numbers,
         trimmed: &Trimmed,
         target: u32,
+        far: u32,
     )
         requires upward { AreUpward upward.now.firsts.items upward.now.heads.items }
         requires numbers { AreNumbers upward.now.heads.items numbers.now.ups.items
@@ -163,20 +256,24 @@ impl Cells {
             numbers.now.downs.items trimmed.now.rows.items }
         requires target { target < length upward.now.firsts.items - 1 }
         requires count { length self.old.list.items ≡ length upward.now.firsts.items - 1 }
-        requires stamps { AreReached (self.old.stamp + 1) self.old.list.items }
+        requires stamps { AreReached (self.old.aim.stamp + 1) self.old.list.items }
         ensures { IsBegun upward.now.firsts.items upward.now.heads.items numbers.now.downs.items
-            target self.new.stamp self.new.list.items }
+            target self.new.aim self.new.list.items }
     {
-        self.raise();
-        self.lower(target, 0);
-        let mut rank = target;
-        loop {
-            self.relax(upward, numbers, trimmed, rank);
-            let first = upward.firsts[rank as usize];
-            if first >= upward.firsts[rank as usize + 1] {
-                return;
-            }
-            rank = upward.heads[first as usize];
+        self.raise(far);
+        self.aim.top = self.reach_up(upward, numbers, trimmed, target);
+    }
+
+    /// The bound that is found of a rank.
+    #[inline(always)]
+    pub(crate) fn bound(&self, rank: u32) -> u32
+        requires { rank < length self.now.list.items }
+        ensures { result ≡ bound_at self.now.aim self.now.list.items rank }
+    {
+        if self.aim.top < rank {
+            self.aim.far
+        } else {
+            self.list[rank as usize].bound
         }
     }
 
@@ -186,35 +283,38 @@ impl Cells {
         requires numbers { AreNumbers upward.now.heads.items numbers.now.ups.items
             numbers.now.downs.items }
         requires rank { rank < length upward.now.firsts.items - 1 }
-        requires reach { reach ≡ reach_of self.now.stamp self.now.list.items rank }
+        requires reach { reach ≡ reach_of self.now.aim self.now.list.items rank }
         requires found { AreFound upward.now.firsts.items upward.now.heads.items
-            numbers.now.ups.items self.now.stamp self.now.list.items }
+            numbers.now.ups.items self.now.aim self.now.list.items }
         requires heads { (place : ℕ) → IsFrom upward.now.firsts.items rank place
-            → IsFinal self.now.stamp self.now.list.items
+            → IsFinal self.now.aim self.now.list.items
             (slice_index upward.now.heads.items place) }
         ensures { result ≡ worth_of upward.now.firsts.items upward.now.heads.items
-            numbers.now.ups.items self.now.stamp self.now.list.items rank }
+            numbers.now.ups.items self.now.aim self.now.list.items rank }
     {
         let mut bound = reach;
         let begin = upward.firsts[rank as usize] as usize;
         let end = upward.firsts[rank as usize + 1] as usize;
         for place in begin..end {
-            let head = self.list[upward.heads[place] as usize];
-            bound = bound.min(plus(numbers.ups[place], head.bound));
+            let there = self.bound(upward.heads[place]);
+            bound = bound.min(plus(numbers.ups[place], there));
         }
         bound
     }
 
     /// The least of what is reached and of what the heads of links have as bounds.
     fn least_by_links(&self, links: &[Link], reach: u32) -> u32
-        requires { (link : Link) → Contains links.now link → link.head < length self.now.list.items }
-        ensures { IsLeastBy (λ head. (cell_at self.now.list.items head).bound) links.now reach
-            result }
+        requires links { (link : Link) → Contains links.now link
+            → link.head < length self.now.list.items }
+        requires ascending { AreAscending links.now }
+        ensures { IsLeastBy (bound_at self.now.aim self.now.list.items) links.now reach result }
     {
         let mut bound = reach;
         for link in links {
-            let head = self.list[link.head as usize];
-            bound = bound.min(plus(link.number, head.bound));
+            if link.number >= bound {
+                return bound;
+            }
+            bound = bound.min(plus(link.number, self.bound(link.head)));
         }
         bound
     }
@@ -228,15 +328,15 @@ impl Cells {
             numbers.now.ups.items trimmed.now.rows.items }
         requires rank { rank < length upward.now.firsts.items - 1 }
         requires found { AreFound upward.now.firsts.items upward.now.heads.items
-            numbers.now.ups.items self.old.stamp self.old.list.items }
+            numbers.now.ups.items self.old.aim self.old.list.items }
         requires heads { (place : ℕ) → IsFrom upward.now.firsts.items rank place
-            → IsFinal self.old.stamp self.old.list.items
+            → IsFinal self.old.aim self.old.list.items
             (slice_index upward.now.heads.items place) }
-        ensures stamp { self.new.stamp ≡ self.old.stamp }
+        ensures aim { self.new.aim ≡ self.old.aim }
         ensures found { AreFound upward.now.firsts.items upward.now.heads.items
-            numbers.now.ups.items self.new.stamp self.new.list.items }
-        ensures finds { FindsMore self.old.stamp self.old.list.items self.new.list.items }
-        ensures here { IsFinal self.new.stamp self.new.list.items rank }
+            numbers.now.ups.items self.new.aim self.new.list.items }
+        ensures finds { FindsMore self.old.aim self.old.list.items self.new.list.items }
+        ensures here { IsFinal self.new.aim self.new.list.items rank }
     {
         let reach = self.reach(rank);
         let bound = match trimmed.links(upward, rank) {
@@ -244,10 +344,22 @@ impl Cells {
             None => self.least_by_arcs(upward, numbers, rank, reach),
         };
         self.list[rank as usize] = Cell {
-            stamp: self.stamp + 1,
+            stamp: self.aim.stamp + 1,
             reach,
             bound,
         };
+    }
+
+    /// Whether the bound of a rank is found.
+    #[inline(always)]
+    fn is_final(&self, rank: u32) -> bool
+        requires { rank < length self.now.list.items }
+        ensures yes { result ≡ true → IsFinal self.now.aim self.now.list.items rank }
+    {
+        if self.aim.top < rank {
+            return true;
+        }
+        self.aim.stamp < self.list[rank as usize].stamp
     }
 
     /// The ranks up the path of lowest heads from one on, up to the first whose bound is found.
@@ -260,11 +372,11 @@ impl Cells {
         ensures room { vec_capacity path.new ≡ vec_capacity path.old }
         ensures path { IsPath upward.now.firsts.items upward.now.heads.items path.new.items }
         ensures top { IsTopFound upward.now.firsts.items upward.now.heads.items
-            self.now.stamp self.now.list.items path.new.items }
-        ensures from { IsWayFrom self.now.stamp self.now.list.items path.new.items rank }
+            self.now.aim self.now.list.items path.new.items }
+        ensures from { IsWayFrom self.now.aim self.now.list.items path.new.items rank }
     {
         let mut at = rank;
-        while self.list[at as usize].stamp <= self.stamp {
+        while !self.is_final(at) {
             path.push_reserved(at);
             let first = upward.firsts[at as usize];
             if first >= upward.firsts[at as usize + 1] {
@@ -288,17 +400,17 @@ impl Cells {
         requires trimmed { AreTrimmed upward.now.firsts.items upward.now.heads.items
             numbers.now.ups.items trimmed.now.rows.items }
         requires found { AreFound upward.now.firsts.items upward.now.heads.items
-            numbers.now.ups.items self.old.stamp self.old.list.items }
+            numbers.now.ups.items self.old.aim self.old.list.items }
         requires path { IsPath upward.now.firsts.items upward.now.heads.items path.old.items }
         requires top { IsTopFound upward.now.firsts.items upward.now.heads.items
-            self.old.stamp self.old.list.items path.old.items }
-        ensures stamp { self.new.stamp ≡ self.old.stamp }
+            self.old.aim self.old.list.items path.old.items }
+        ensures aim { self.new.aim ≡ self.old.aim }
         ensures found { AreFound upward.now.firsts.items upward.now.heads.items
-            numbers.now.ups.items self.new.stamp self.new.list.items }
-        ensures finds { FindsMore self.old.stamp self.old.list.items self.new.list.items }
+            numbers.now.ups.items self.new.aim self.new.list.items }
+        ensures finds { FindsMore self.old.aim self.old.list.items self.new.list.items }
         ensures path { (path.new.items ≡ []) × (vec_capacity path.new ≡ vec_capacity path.old) }
-        ensures from { (rank : ℕ) → IsWayFrom self.old.stamp self.old.list.items path.old.items rank
-            → IsFinal self.new.stamp self.new.list.items rank }
+        ensures from { (rank : ℕ) → IsWayFrom self.old.aim self.old.list.items path.old.items rank
+            → IsFinal self.new.aim self.new.list.items rank }
     {
         while let Some(rank) = path.pop() {
             self.evaluate(upward, numbers, trimmed, rank);

@@ -100,9 +100,9 @@ fn limits_of(network: &Network) -> Limits {
 const LEAST_NEAR: u64 = 512;
 
 /// How many upward arcs on a way up there are for each of them.
-const ARCS_A_NODE: u64 = 256;
+const ARCS_A_NODE: u64 = 512;
 
-/// How many nodes a search may scan in about a quarter of the time of a first bound.
+/// How many nodes a search may scan in about the time of a bound to a near target.
 fn near_by(upward: &Upward) -> u32 {
     let nodes = mean_arcs_above(upward) / ARCS_A_NODE;
     nodes.max(LEAST_NEAR).min(u64::from(NONE)) as u32
@@ -255,7 +255,7 @@ impl Prepared {
             .saturating_add(self.trimmed_downs.left_out)
     }
 
-    /// How many nodes a search may scan in about a quarter of the time that the first bound to a target takes.
+    /// How many nodes a search may scan in about the time that bounds to a near target take.
     pub fn near(&self) -> u32 {
         self.near
     }

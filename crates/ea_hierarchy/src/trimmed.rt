@@ -96,7 +96,7 @@ fn mark(upward: &Upward, numbers: &[u32], rank: u32, place: usize, marks: &mut V
     }
 }
 
-/// The arcs of a rank that no others replace.
+/// The arcs of a rank that no others replace, by ascending numbers, so that those that can't matter come last.
 fn links_of(
     alloc: Global,
     upward: &Upward,
@@ -130,6 +130,7 @@ fn links_of(
             })?;
         }
     }
+    links.sort_unstable_by_key(|link| link.number);
     Ok(links)
 }
 

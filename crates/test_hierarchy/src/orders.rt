@@ -42,12 +42,49 @@ fn compare(
     if target == 0 || target > prepared.nodes() {
         return Ok(());
     }
-    bounds.begin(prepared, target);
     count.targets = count.targets.wrapping_add(1);
-    if first_wrong(prepared, bounds, &sums, true) != None {
+    compare_to(alloc, prepared, bounds, target, &sums, u32::MAX, count)?;
+    compare_to(alloc, prepared, bounds, target, &sums, 0, count)?;
+    compare_to(alloc, prepared, bounds, target, &sums, 1, count)?;
+    compare_to(alloc, prepared, bounds, target, &sums, 40, count)?;
+    compare_to(alloc, prepared, bounds, target, &sums, 1000, count)
+}
+
+/// Compares bounds that end this far from a target with the sums, and counts.
+fn compare_to(
+    alloc: Global,
+    prepared: &Prepared,
+    bounds: &mut Bounds,
+    target: u32,
+    sums: &[u64],
+    far: u32,
+    count: &mut Count,
+) -> Result<(), AllocError>
+    requires room { IsRoomFor prepared.now bounds.old }
+    ensures room { IsRoomFor prepared.now bounds.new }
+{
+    if target == 0 || target > prepared.nodes() {
+        return Ok(());
+    }
+    let within = no_farther(alloc, sums, far)?;
+    bounds.begin(prepared, target, far);
+    if first_wrong(prepared, bounds, &within, true) != None {
         count.wrong = count.wrong.wrapping_add(1);
     }
     Ok(())
+}
+
+/// Sums, those that are farther as where a look ends; with the greatest number all as they are.
+fn no_farther(alloc: Global, sums: &[u64], far: u32) -> Result<Vec<u64>, AllocError> {
+    let mut within = Vec::with_capacity(alloc, sums.len())?;
+    for sum in sums {
+        within.push(if far == u32::MAX {
+            *sum
+        } else {
+            (*sum).min(u64::from(far))
+        })?;
+    }
+    Ok(within)
 }
 
 /// Compares the bounds to three targets over a preparation, one after another, and counts.
@@ -310,9 +347,9 @@ fn few_nodes_are_near_if_ways_up_are_short(rt: HostRuntime) -> Result<(), Fail> 
 
 #[test]
 fn more_nodes_are_near_if_ways_up_are_long(rt: HostRuntime) -> Result<(), Fail> {
-    // 1,000 nodes that are all joined: from the ranks that are looked at there are on average 177,000 arcs to the top.
-    let near = near_in(rt.alloc(), Shape::Clique, 1000).map_err(|_| "prepared")?;
-    assert!(rt; near > Some(600) && near < Some(700));
+    // 1,500 nodes that are all joined: from the ranks that are looked at there are on average 400,000 arcs to the top.
+    let near = near_in(rt.alloc(), Shape::Clique, 1500).map_err(|_| "prepared")?;
+    assert!(rt; near > Some(700) && near < Some(850));
     Ok(())
 }
 

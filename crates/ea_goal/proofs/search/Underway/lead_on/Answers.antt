@@ -25,14 +25,14 @@ returns-clause-led g c = λ sources are led.
     let target = c.args.target in
     let table = c.args.self.now.table.labels.items in
     let all = c.args.self.now.frontier in
-    let begun = c.begin.new.self in
+    let begun = c.args.self.now.potential in
     let again = c.reopen_all.new.self in
     let first = again.frontier in
     let end = c.run.new.self in
     let bound : ℕ → ℕ = bound_of c.args.prepared.now begun.bounds in
     let given : ℕ → ℕ = potential_of c.args.prepared.now begun in
     let next : ℕ → ℕ = potential_of c.args.prepared.now again.potential in
-    let given_is : (node : ℕ) → given node ≡ bound node = λ node. rw c.begin.ensures.begun refl in
+    let given_is : (node : ℕ) → given node ≡ bound node = λ node. rw c.requires.begun refl in
     let reopens : ReopensAll (length c.args.prepared.now.ranks) target given table all [] first =
     subst (λ (es : List Entry). ReopensAll (length c.args.prepared.now.ranks) target given table es [] first) c.swap.ensures.y_after c.in_ok-reopen_all.ensures.reopens in
     let reopened = subst (λ n. ReopensAll n target given table all [] first) c.requires.prepared.over.ranked reopens in

@@ -1,4 +1,4 @@
-use Rattle.std.proofs.Common.{refl, sym, ◌∙◌, ◌≡◌, ℕ}
+use Rattle.std.proofs.Common.{arith, inl, inr, refl, sym, ◌∙◌, ◌≡◌, ℕ}
 use Rattle.std.specs.List.{IsAmong}
 use Rattle.ea_road.specs.Labels.{label_of}
 use Rattle.ea_road.specs.Roads.{IsNode}
@@ -19,6 +19,14 @@ pub run_near-requires-clause-keys : goal.run_near-requires-clause-keys
 run_near-requires-clause-keys g c =
     keyed_alike (potential_of c.args.prepared.now c.args.self.now.potential) (potential_of c.args.prepared.now c.begin.new.self.potential) c.begin.new.self.frontier (λ node. sym (c.begin.ensures.same node)) c.in_ok-begin.ensures.seeded.keyed
 
+pub begin-requires-2-clause-source : goal.begin-requires-2-clause-source
+begin-requires-2-clause-source g c =
+    let ranked = c.requires.prepared.over.ranked in
+    elim c.start_of-source.ensures [
+      | inl is ↦ (omega (arith, is, c.requires.target.from_one), omega (arith, is, c.requires.target.to_last, ranked))
+      | inr among ↦ let node = (c.requires.sources c.start_of-source.result among).0 in (node.from_one, omega (arith, node.to_last, ranked))
+    ]
+
 pub returns-clause-led : goal.returns-clause-led
 returns-clause-led g c =
     let roads = c.args.network.now in
@@ -36,7 +44,7 @@ returns-clause-led g c =
     let is_zero : (node : ℕ) → before node ≡ zero node = λ node. rw c.requires.zero refl in
     let led = seeded_all roads answers sources target before begun first c.requires.sources c.in_ok-begin.ensures.seeded in
     let led_next = led_alike roads answers target sources before next (label_of begun) (Waits first) (λ node. sym (c.begin.ensures.same node)) led in
-    let led_near = c.in_ok-run_near.ensures.leads.led sources are led_next in
+    let led_near = c.in_ok-last.ensures.leads.led sources are led_next in
     c.in_ok-lead_on.ensures.led sources are (led_alike roads answers target sources next zero (label_of near) (Waits last) (λ node. c.begin.ensures.same node ∙ is_zero node) led_near)
 
 pub returns-then-is_empty-clause-led : goal.returns-then-is_empty-clause-led
@@ -56,7 +64,7 @@ returns-then-is_empty-clause-led g c =
     let is_zero : (node : ℕ) → before node ≡ zero node = λ node. rw c.requires.zero refl in
     let led = seeded_all roads answers sources target before begun first c.requires.sources c.in_ok-begin.ensures.seeded in
     let led_next = led_alike roads answers target sources before next (label_of begun) (Waits first) (λ node. sym (c.begin.ensures.same node)) led in
-    let led_near = c.in_ok-run_near.ensures.leads.led sources are led_next in
+    let led_near = c.in_ok-last.ensures.leads.led sources are led_next in
     let led_zero = led_alike roads answers target sources next zero (label_of near) (Waits last) (λ node. c.begin.ensures.same node ∙ is_zero node) led_near in
     record {
       bound = zero;

@@ -7,15 +7,28 @@ use Rattle.ea_hierarchy.proofs.trimmed.Trimmed.add.Goals.{in-Some, in_default}
 use Rattle.ea_hierarchy.proofs.trimmed.Trimmed.add.Goals as goal
 
 pub returns : goal.returns
-returns c = λ firsts heads numbers are is row there.
-    let rows = c.args.self.now.rows.items in
-    let here : Row = record { rank = c.args.rank; links = c.args.links } in
-    let same : c.match-get_mut.self.rows.items ≡ rows = elim c.match-get_mut.branch [
-      | in-Some w ↦ ap (λ (t : Trimmed). t.rows.items) w.self-is
-      | in_default w ↦ ap (λ (t : Trimmed). t.rows.items) w.self-is
-    ] in
-    let grown : c.push.new.self.items ≡ rows ++ here ∷ [] = c.in_ok-push.ensures.items ∙ ap (λ (xs : List Row). xs ++ here ∷ []) same in
-    elim (Contains-push_cases rows here row (subst (λ (xs : List Row). Contains xs row) grown there)) [
-      | inl was ↦ are row was
-      | inr new ↦ subst (λ (r : Row). IsTrimmed firsts heads numbers r.rank r.links.items) new is
-    ]
+returns c = λ firsts heads numbers are is. record {
+  each = λ row there.
+      let rows = c.args.self.now.rows.items in
+      let here : Row = record { rank = c.args.rank; links = c.args.links } in
+      let same : c.match-get_mut.self.rows.items ≡ rows = elim c.match-get_mut.branch [
+        | in-Some w ↦ ap (λ (t : Trimmed). t.rows.items) w.self-is
+        | in_default w ↦ ap (λ (t : Trimmed). t.rows.items) w.self-is
+      ] in
+      let grown : c.push.new.self.items ≡ rows ++ here ∷ [] = c.in_ok-push.ensures.items ∙ ap (λ (xs : List Row). xs ++ here ∷ []) same in
+      elim (Contains-push_cases rows here row (subst (λ (xs : List Row). Contains xs row) grown there)) [
+        | inl was ↦ are.each row was
+        | inr new ↦ subst (λ (r : Row). IsTrimmed firsts heads numbers r.rank r.links.items) new is
+      ];
+}
+
+pub returns-in_err-push : goal.returns-in_err-push
+returns-in_err-push c = λ firsts heads numbers are is. record {
+  each = λ row there.
+      let rows = c.args.self.now.rows.items in
+      let same : c.match-get_mut.self.rows.items ≡ rows = elim c.match-get_mut.branch [
+        | in-Some w ↦ ap (λ (t : Trimmed). t.rows.items) w.self-is
+        | in_default w ↦ ap (λ (t : Trimmed). t.rows.items) w.self-is
+      ] in
+      are.each row (subst (λ (xs : List Row). Contains xs row) (c.in_err-push.ensures.items ∙ same) there);
+}
