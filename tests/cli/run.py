@@ -93,7 +93,7 @@ def scarce(program):
 
 
 def little_stack(program):
-    """Each command with a stack as small as the guide says: its status, its output and that with the usual stack."""
+    """Each command with a stack as small as the guide says: its status, its output and that with the usual stack. With less, a line."""
     with open(os.path.join(HERE, "..", "..", "docs", "guide", "install.md"), encoding="utf-8") as page:
         size = int(re.search(r"`ulimit -s (\d+)`", page.read())[1]) * 1024
     road = "road.gr road.ss --tp road.tp"
@@ -103,6 +103,11 @@ def little_stack(program):
             run = subprocess.run([program, *words.split()], cwd=EXAMPLES, stdin=subprocess.DEVNULL, capture_output=True, timeout=60, preexec_fn=limit)
             both.append((run.returncode, b"".join(line for line in run.stdout.splitlines(True) if not line.startswith(b"c ")), run.stderr))
         yield f"a stack of {size} bytes: {words}", both[0], both[1]
+    for less in (size // 1024 - 1, 128, 64):
+        for words in (f"run {road}", "--version"):
+            run = subprocess.run([program, *words.split()], cwd=EXAMPLES, stdin=subprocess.DEVNULL, capture_output=True, timeout=60, preexec_fn=lambda: resource.setrlimit(resource.RLIMIT_STACK, (1024 * less, 1024 * less)))
+            line = f"earliest: the stack may have {less} KiB, and {size // 1024} are needed: raise its limit by `ulimit -s {size // 1024}`\n"
+            yield f"a stack of {less} KiB: {words}", (run.returncode, run.stdout, run.stderr.decode()), (3, b"", line)
 
 
 def held(program):

@@ -8,6 +8,7 @@ use crate::files::{Names, names_of, open_all, open_output};
 use crate::messages::{refuse, tell, tell_end, tell_unopened};
 use crate::pages::{explain_fault, show_text};
 use crate::progress_line::{Line, tells_progress};
+use crate::stack::refuse_small;
 use crate::stored_run::stored;
 use ea_messages::{FORMATS, Outcome};
 use ea_options::{Command, RunOptions, asks_to_explain};
@@ -19,6 +20,15 @@ use std::thread::Threads;
 /// it, or on a terminal.
 pub fn run<H: Threads + Sync>(rt: &HostRuntime, threads: &H) -> u8 {
     let _held = hold_descriptors(rt);
+    match refuse_small(rt) {
+        Some(status) => status,
+        None => run_words(rt, threads),
+    }
+}
+
+/// The same with enough stack: its frame is only made then.
+#[inline(never)]
+fn run_words<H: Threads + Sync>(rt: &HostRuntime, threads: &H) -> u8 {
     let words = match words_of(rt) {
         Ok(words) => words,
         Err(fault) => return tell(rt, &Outcome::Command(fault)),

@@ -12,6 +12,7 @@ mod output;
 mod pages;
 mod progress_line;
 mod source;
+mod stack;
 mod stored_run;
 mod target;
 
