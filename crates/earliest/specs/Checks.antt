@@ -1,5 +1,5 @@
 -- The outcome of checking a report, for the network and the sources that its files denote.
-use Rattle.std.specs.Prelude.{◌≡◌, ◌⊎◌, ℕ, List, Result}
+use Rattle.std.specs.Prelude.{◌≡◌, ◌⊎◌, ℕ, IfErr, IfOk, List, Result}
 use Rattle.std.specs.Io.KnownBytes.{IsAtEnd}
 use Rattle.ea_load.specs.declared.file_fault.FileWord.TheVariants.{Report}
 use Rattle.ea_load.specs.declared.file_fault.FileFault.{FileFault}
@@ -59,3 +59,8 @@ IsUnjudged options files report BadOption = HasLateStart (run_asks options) file
 IsUnjudged options files report (Write written) = ⊥
 IsUnjudged options files report (OutOfMemory written) =
     (written ≡ 0) × (IsFirstAtFault options files report file.OutOfMemory ⊎ (AreAllRead files × IsBorne report))
+
+-- The verdict on a report, or why there is none.
+pub record IsVerdictOn (options : RunOptions) (files : Files) (report : Reading) (result : Result (Result (Unit {0}) CheckFault) AnswerFault) : Type 0 where
+  pub judged : IfOk result (IsJudged options files report)
+  pub unjudged : IfErr result (IsUnjudged options files report)

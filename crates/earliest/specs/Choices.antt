@@ -1,10 +1,13 @@
 -- Which search a problem gets, by what was asked, the number of processors, and the size. No
 -- byte of a report depends on it; its time does.
-use Rattle.std.specs.Prelude.{◌≡◌, ◌≤◌, ℕ, true, ◌*◌, ◌^◌, ◌/◌, ◌-◌, Bool, Option, Some, None, min, max, if◌then◌else◌, is_some, nat_le, nat_lt, ◌==◌, ◌&&◌, ◌||◌, not, unwrap_or}
+use Rattle.std.specs.Prelude.{◌≡◌, ◌≤◌, ℕ, true, ◌*◌, ◌^◌, ◌/◌, ◌-◌, Bool, IfSome, List, Option, Some, None, min, max, if◌then◌else◌, is_some, nat_le, nat_lt, ◌==◌, ◌&&◌, ◌||◌, not, unwrap_or}
 use Rattle.ea_base.specs.declared.limits.TheConstants.{MOST_AT_ONCE, MOST_TURNS, MOST_WORKERS}
 use Rattle.ea_engine.specs.Limits.{AreSettings}
 use Rattle.ea_engine.specs.declared.settings.Settings.{Settings}
-use Rattle.ea_options.specs.Limits.{counted_workers}
+use Rattle.ea_load.specs.Posed.{AreProblems}
+use Rattle.ea_load.specs.declared.road.Road.{Road}
+use Rattle.ea_road.specs.Queries.{Asking}
+use Rattle.ea_options.specs.Limits.{AreOptions, counted_workers}
 use Rattle.ea_options.specs.declared.options.RunOptions.{RunOptions}
 use Rattle.earliest.specs.Workers.{settings_with}
 use Rattle.earliest.specs.declared.solver_choice.TheConstants.{FEW_FOR_TWO, FEW_NODES, MANY_FOR_TWO, MANY_NODES, TURNS}
@@ -15,6 +18,27 @@ pub record IsChosen (most choice number : ℕ) : Type 0 where
   pub some : 1 ≤ number
   pub few : number ≤ most
   pub chosen : number ≡ choice
+
+-- Options, and the number of processors, if it is known.
+pub record CanChoose (options : RunOptions) (processors : Option ℕ) : Type 0 where
+  pub options_are : AreOptions options
+  pub processors_are : IfSome processors (λ count. 1 ≤ count)
+
+-- Problems on a road, and options.
+pub record CanPrepare (road : Road) (queries : List Asking) (options : RunOptions) : Type 0 where
+  pub problems : AreProblems road queries
+  pub options_are : AreOptions options
+
+-- The number of processors, if it is known, and of the workers that are asked for, if any are.
+pub record CanLimit (processors workers : Option ℕ) : Type 0 where
+  pub processors_are : IfSome processors (λ count. 1 ≤ count)
+  pub workers_are : IfSome workers (λ count. (1 ≤ count) × (count ≤ MOST_WORKERS))
+
+-- Options, and a number of workers that they can be set up for.
+pub record CanSetUp (options : RunOptions) (workers : ℕ) : Type 0 where
+  pub options_are : AreOptions options
+  pub some : 1 ≤ workers
+  pub few : workers ≤ MOST_WORKERS
 
 -- The number of problems that are searched at once: as asked for; else one if workers or statistics are asked for; else
 -- one for each processor.

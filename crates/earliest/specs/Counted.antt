@@ -37,6 +37,12 @@ pub record CanRun {T : Type 0} (IsCallable : T → Type 0) (shows : T → Turn �
   pub callable : All IsCallable tracers
   pub stays : All (KeepsOn shows settings.workers) tracers
 
+-- The same where each has a copy of one tracer.
+pub record CanRunCopies {T : Type 0} (shows : T → Turn → Flow → T → Type 0) (settings : Settings) (rngs : ℕ) (tracer : T) : Type 0 where
+  pub settings_are : AreSettings settings
+  pub workers : rngs ≡ settings.workers
+  pub stays : KeepsOn shows settings.workers tracer
+
 -- A worker counted the turns of a lawful list of turns, and stayed.
 pub record CountsTurns (settings : Settings) (counters : Counters) : Type 0 where
   pub turns : List Told

@@ -1,14 +1,14 @@
 //! From files to a report.
-ghost use Rattle.std.specs.Prelude.{◌≡◌, ◌≤◌, IfOk, IfErr};
+ghost use Rattle.std.specs.Prelude.{◌≡◌, ◌≤◌};
 ghost use Rattle.ea_base.specs.declared.limits.TheConstants.{HORIZON};
 ghost use Rattle.ea_load.specs.Extra.{extras_in};
 ghost use Rattle.ea_load.specs.Files.{reading};
-ghost use Rattle.ea_load.specs.Asked.{IsAnswered, IsFailed, files_of};
+ghost use Rattle.ea_load.specs.Asked.{files_of};
 ghost use Rattle.ea_options.specs.Limits.{AreOptions};
 ghost use Rattle.ea_load.specs.Starts.{plan_of};
 ghost use Rattle.ea_report.specs.Asked.{shape_of};
 ghost use Rattle.earliest.specs.Fronts.{shape_by};
-ghost use Rattle.earliest.specs.Runs.{plan_by, run_asks, pair_asks};
+ghost use Rattle.earliest.specs.Runs.{AnswersOrFails, pair_asks, plan_by, run_asks};
 
 use crate::preparing::{layout_for, prepared_for};
 use crate::reports::report_all;
@@ -73,15 +73,11 @@ pub fn answer<H: Threads + Sync, G: ByteIn, S: ByteIn, T: ByteIn, W: ByteOut>(
     options: &RunOptions,
     out: &mut W,
 ) -> Result<Totals, AnswerFault>
-    requires options { AreOptions options.now }
-    ensures answered { IfOk result (IsAnswered (run_asks options.now)
+    requires { AreOptions options.now }
+    ensures { AnswersOrFails (run_asks options.now)
         (files_of (reading G.seen gr.old gr.new)
         (reading S.seen ss.old ss.new) T.seen others.old others.new)
-        (W.seen out.old) (W.seen out.new)) }
-    ensures failed { IfErr result (IsFailed (run_asks options.now)
-        (files_of (reading G.seen gr.old gr.new)
-        (reading S.seen ss.old ss.new) T.seen others.old others.new)
-        (W.seen out.old) (W.seen out.new)) }
+        (W.seen out.old) (W.seen out.new) result }
 {
     answer_watched(alloc, rt, gr, ss, others, options, out, &mut Silent)
 }
@@ -104,15 +100,11 @@ pub(crate) fn answer_watched<
     out: &mut W,
     watch: &mut V,
 ) -> Result<Totals, AnswerFault>
-    requires options { AreOptions options.now }
-    ensures answered { IfOk result (IsAnswered (run_asks options.now)
+    requires { AreOptions options.now }
+    ensures { AnswersOrFails (run_asks options.now)
         (files_of (reading G.seen gr.old gr.new)
         (reading S.seen ss.old ss.new) T.seen others.old others.new)
-        (W.seen out.old) (W.seen out.new)) }
-    ensures failed { IfErr result (IsFailed (run_asks options.now)
-        (files_of (reading G.seen gr.old gr.new)
-        (reading S.seen ss.old ss.new) T.seen others.old others.new)
-        (W.seen out.old) (W.seen out.new)) }
+        (W.seen out.old) (W.seen out.new) result }
 {
     let files = read_run_by(alloc, rt, gr, ss, &mut others.tp, options.direction)?;
     let extras = read_extras(
@@ -153,15 +145,11 @@ pub fn answer_pairs<H: Threads + Sync, G: ByteIn, P: ByteIn, T: ByteIn, W: ByteO
     options: &RunOptions,
     out: &mut W,
 ) -> Result<Totals, AnswerFault>
-    requires options { AreOptions options.now }
-    ensures answered { IfOk result (IsAnswered (pair_asks options.now)
+    requires { AreOptions options.now }
+    ensures { AnswersOrFails (pair_asks options.now)
         (files_of (reading G.seen gr.old gr.new)
         (reading P.seen p2p.old p2p.new) T.seen others.old others.new)
-        (W.seen out.old) (W.seen out.new)) }
-    ensures failed { IfErr result (IsFailed (pair_asks options.now)
-        (files_of (reading G.seen gr.old gr.new)
-        (reading P.seen p2p.old p2p.new) T.seen others.old others.new)
-        (W.seen out.old) (W.seen out.new)) }
+        (W.seen out.old) (W.seen out.new) result }
 {
     pairs_watched(alloc, rt, gr, p2p, others, options, out, &mut Silent)
 }
@@ -184,15 +172,11 @@ pub(crate) fn pairs_watched<
     out: &mut W,
     watch: &mut V,
 ) -> Result<Totals, AnswerFault>
-    requires options { AreOptions options.now }
-    ensures answered { IfOk result (IsAnswered (pair_asks options.now)
+    requires { AreOptions options.now }
+    ensures { AnswersOrFails (pair_asks options.now)
         (files_of (reading G.seen gr.old gr.new)
         (reading P.seen p2p.old p2p.new) T.seen others.old others.new)
-        (W.seen out.old) (W.seen out.new)) }
-    ensures failed { IfErr result (IsFailed (pair_asks options.now)
-        (files_of (reading G.seen gr.old gr.new)
-        (reading P.seen p2p.old p2p.new) T.seen others.old others.new)
-        (W.seen out.old) (W.seen out.new)) }
+        (W.seen out.old) (W.seen out.new) result }
 {
     let files = read_pairs(alloc, rt, gr, p2p, &mut others.tp, options.direction)?;
     let extras = read_extras(

@@ -1,11 +1,11 @@
 //! Checking reports.
-ghost use Rattle.std.specs.Prelude.{IfOk, IfErr, length};
+ghost use Rattle.std.specs.Prelude.{MatchResult, length};
 ghost use Rattle.ea_check.specs.Checked.{AreCheckable, sources_of};
 ghost use Rattle.ea_load.specs.Files.{reading};
 ghost use Rattle.ea_load.specs.Asked.{files_of};
 ghost use Rattle.ea_options.specs.Limits.{AreOptions};
 ghost use Rattle.ea_load.specs.Posed.{times_on};
-ghost use Rattle.earliest.specs.Checks.{HasReport, IsJudged, IsReportFault, IsUnjudged};
+ghost use Rattle.earliest.specs.Checks.{HasReport, IsReportFault, IsVerdictOn};
 
 use crate::answers::schedule_by;
 use ea_base::{Direction, Silent, Watch};
@@ -43,9 +43,10 @@ fn judge<H: Threads + Sync, R: ByteIn, V: Watch>(
 ) -> Result<Result<(), CheckFault>, FileFault>
     requires checkable { AreCheckable road.now.network
         (length road.now.times.tables.list.items) queries.now }
-    ensures judged { IfOk result (HasReport way road.now.network (times_on road.now)
-        (sources_of queries.now) (reading R.seen report.old report.new)) }
-    ensures fault { IfErr result (IsReportFault (reading R.seen report.old report.new)) }
+    ensures { MatchResult result
+        (HasReport way road.now.network (times_on road.now) (sources_of queries.now)
+        (reading R.seen report.old report.new))
+        (IsReportFault (reading R.seen report.old report.new)) }
 {
     let team = Several {
         rt,
@@ -86,15 +87,11 @@ pub fn check_report<H: Threads + Sync, G: ByteIn, S: ByteIn, T: ByteIn, R: ByteI
     options: &RunOptions,
     report: &mut R,
 ) -> Result<Result<(), CheckFault>, AnswerFault>
-    requires options { AreOptions options.now }
-    ensures judged { IfOk result (IsJudged options.now
+    requires { AreOptions options.now }
+    ensures { IsVerdictOn options.now
         (files_of (reading G.seen gr.old gr.new)
         (reading S.seen ss.old ss.new) T.seen others.old others.new)
-        (reading R.seen report.old report.new)) }
-    ensures unjudged { IfErr result (IsUnjudged options.now
-        (files_of (reading G.seen gr.old gr.new)
-        (reading S.seen ss.old ss.new) T.seen others.old others.new)
-        (reading R.seen report.old report.new)) }
+        (reading R.seen report.old report.new) result }
 {
     check_watched(alloc, rt, gr, ss, others, options, report, &mut Silent)
 }
@@ -117,15 +114,11 @@ pub(crate) fn check_watched<
     report: &mut R,
     watch: &mut V,
 ) -> Result<Result<(), CheckFault>, AnswerFault>
-    requires options { AreOptions options.now }
-    ensures judged { IfOk result (IsJudged options.now
+    requires { AreOptions options.now }
+    ensures { IsVerdictOn options.now
         (files_of (reading G.seen gr.old gr.new)
         (reading S.seen ss.old ss.new) T.seen others.old others.new)
-        (reading R.seen report.old report.new)) }
-    ensures unjudged { IfErr result (IsUnjudged options.now
-        (files_of (reading G.seen gr.old gr.new)
-        (reading S.seen ss.old ss.new) T.seen others.old others.new)
-        (reading R.seen report.old report.new)) }
+        (reading R.seen report.old report.new) result }
 {
     let files = read_run_by(alloc, rt, gr, ss, &mut others.tp, options.direction)?;
     let extras = read_extras(

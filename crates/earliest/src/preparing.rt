@@ -1,10 +1,10 @@
 //! What is made of a road before it is searched: a preparation for pairs, a layout for many problems.
-ghost use Rattle.std.specs.Prelude.{◌≡◌, ◌<◌, IfSome, length};
+ghost use Rattle.std.specs.Prelude.{◌≡◌, ◌<◌, IfSome};
 ghost use Rattle.ea_layout.specs.Orders.{LaysOut};
 ghost use Rattle.ea_load.specs.Posed.{AreProblems, IsPosed};
 ghost use Rattle.ea_options.specs.Limits.{AreOptions};
 ghost use Rattle.ea_batch.specs.Solved.{IsPreparedOn};
-ghost use Rattle.earliest.specs.Choices.{are_many, pays_for};
+ghost use Rattle.earliest.specs.Choices.{CanPrepare, are_many, pays_for};
 
 use crate::solver_choice::{asks_for_workers, threads_at_once};
 use ea_base::Direction;
@@ -69,8 +69,7 @@ fn is_worth<H: Threads>(
     queries: &[Query],
     options: &RunOptions,
 ) -> bool
-    requires problems { AreProblems road.now queries.now }
-    requires options { AreOptions options.now }
+    requires can { CanPrepare road.now queries.now options.now }
 {
     let nodes = road.network.nodes();
     if queries.len() < FEW_PAIRS || nodes < FEW_NODES {
@@ -118,8 +117,7 @@ pub(crate) fn prepared_for<H: Threads>(
     queries: &[Query],
     options: &RunOptions,
 ) -> Option<Prepared>
-    requires problems { AreProblems road.now queries.now }
-    requires options { AreOptions options.now }
+    requires can { CanPrepare road.now queries.now options.now }
     ensures { IfSome result (IsPreparedOn road.now) }
 {
     if asks_for_workers(options) || queries.is_empty() {

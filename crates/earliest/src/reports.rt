@@ -1,22 +1,12 @@
 //! Writing the reports of problems one after another, and their totals.
-ghost use Rattle.std.specs.Prelude.{◌≡◌, ◌≤◌, ◌+◌, ◌*◌, ◌^◌, ℕ, [], IfOk, IfErr, OnOk, if◌then◌else◌, length, true};
-ghost use Rattle.std.specs.Io.KnownBytes.{Appends};
-ghost use Rattle.ea_bytes.specs.Device.{BearsOn, GivesUp};
-ghost use Rattle.ea_base.specs.declared.limits.TheConstants.{MOST_NODES, MOST_STARTS};
-ghost use Rattle.ea_report.specs.Asked.{chosen_by, shape_of};
-ghost use Rattle.ea_report.specs.Sent.{IsCutAt};
-ghost use Rattle.ea_report.specs.Stats.{stats_text};
+ghost use Rattle.std.specs.Prelude.{◌≤◌, ◌+◌, ◌*◌, ◌^◌, OnOk};
+ghost use Rattle.ea_base.specs.declared.limits.TheConstants.{MOST_STARTS};
+ghost use Rattle.ea_report.specs.Asked.{shape_of};
 ghost use Rattle.ea_report.specs.declared.stats.Totals.{Totals};
-ghost use Rattle.ea_load.specs.Posed.{AreProblems, times_on};
-ghost use Rattle.ea_options.specs.Limits.{AreOptions};
-ghost use Rattle.ea_batch.specs.Arrays.{IsAided, HasSentNothing, KeepsArrays};
+ghost use Rattle.ea_batch.specs.Arrays.{IsAided, KeepsArrays};
 ghost use Rattle.ea_batch.specs.Reportable.{IsReportable};
 ghost use Rattle.ea_batch.specs.Sending.{SendsReport};
-ghost use Rattle.ea_batch.specs.Solved.{AreAidsOn, IsShown};
-ghost use Rattle.earliest.specs.Counted.{AreNoTotals, IsTotal, plus};
-ghost use Rattle.earliest.specs.Fronts.{IsCutShort, IsWritten, shape_by};
-ghost use Rattle.earliest.specs.Running.{AddsTotals, HasOneMore, IsFoundByWorkers, IsRunning, MayReport, MayReportAll, ReportsAll};
-ghost use Rattle.earliest.specs.Workers.{settings_by};
+ghost use Rattle.earliest.specs.Running.{AddsReport, AddsTotals, HasReportedNothing, IsFoundByWorkers, IsRunning, MayReport, MayReportAll, ReportsAll, WritesAll, WritesTotals};
 
 use crate::solver_choice::{Found, find, goes_ahead, threads_at_once, workers_of};
 use crate::totals::{add_totals, no_totals};
@@ -40,8 +30,7 @@ pub(crate) struct Reports<'a> {
 impl<'a> Reports<'a> {
     /// Nothing sent yet.
     fn begin(aids: Aids<'a>) -> Reports<'a>
-        ensures totals { AreNoTotals result.totals }
-        ensures progress { HasSentNothing aids.entry result.progress }
+        ensures { HasReportedNothing aids.entry result }
     {
         Reports {
             totals: no_totals(),
@@ -92,10 +81,8 @@ impl Reports<'_> {
         ensures sends { SendsReport (shape_of shown.entry) road.now query.now
             (W.seen out.old) (W.seen out.new)
             self.old.progress.written self.new.progress.written result }
-        ensures counted { OnOk result (options.now.stats ≡ true →
-            (more : Totals) × IsTotal (settings_by options.now) query.now more
-            × (self.new.totals ≡ plus self.old.totals more)) }
-        ensures more { OnOk result (HasOneMore self.old.totals self.new.totals) }
+        ensures adds { OnOk result (AddsReport options.now query.now
+            self.old.totals self.new.totals) }
         ensures aided { IsAided road.now shown.entry.style.walks
             self.new.progress.search self.new.progress.aids }
     {
@@ -173,14 +160,7 @@ fn report_problems<'a, H: Threads + Sync, W: ByteOut, V: Watch>(
 /// Writes the totals, if statistics are asked for.
 fn write_totals<W: ByteOut>(reports: &Reports, stats: bool, out: &mut W) -> Result<(), AnswerFault>
     requires { reports.now.progress.written ≤ MOST_STARTS * 2 ^ 90 }
-    ensures ok { OnOk result (Appends (W.seen out.old).bytes (W.seen out.new).bytes
-        (if stats then stats_text reports.now.totals else [])) }
-    ensures borne { OnOk result (BearsOn (W.seen out.old) (W.seen out.new)) }
-    ensures err { IfErr result (λ fault. (sent : ℕ) × (stats ≡ true)
-        × (fault ≡ AnswerFault.Write (reports.now.progress.written + sent))
-        × IsCutAt (W.seen out.old).bytes (W.seen out.new).bytes
-        (stats_text reports.now.totals) sent
-        × GivesUp (W.seen out.old) (W.seen out.new)) }
+    ensures { WritesTotals reports.now stats (W.seen out.old) (W.seen out.new) result }
 {
     if stats {
         match write_stats(&reports.totals, out) {
@@ -204,20 +184,9 @@ pub(crate) fn report_all<H: Threads + Sync, W: ByteOut, V: Watch>(
     watched: Watched<'_, V>,
     out: &mut W,
 ) -> Result<Totals, AnswerFault>
-    requires problems { AreProblems road.now queries.now }
-    requires few { (length queries.now ≤ MOST_STARTS) × (road.now.network.nodes ≤ MOST_NODES) }
-    requires options { AreOptions options.now }
-    requires asked { shape_of watched.shown
-        ≡ shape_by options.now (chosen_by watched.shown) }
-    requires shown { IsShown road.now.network (shape_of watched.shown) }
-    requires aids { AreAidsOn road.now watched.aids }
-    ensures ok { IfOk result (IsWritten options.now (chosen_by watched.entry.shown)
-        road.now.network (times_on road.now) queries.now
-        (W.seen out.old) (W.seen out.new)) }
-    ensures err { IfErr result
-        (IsCutShort options.now (chosen_by watched.entry.shown)
-        road.now.network (times_on road.now) queries.now
-        (W.seen out.old) (W.seen out.new)) }
+    requires run { MayReportAll road.now queries.now options.now (shape_of watched.shown) watched.aids }
+    ensures { WritesAll options.now (shape_of watched.entry.shown) road.now queries.now
+        (W.seen out.old) (W.seen out.new) result }
 {
     let Watched { shown, aids, watch } = watched;
     let watched = Watched { shown, aids, watch };

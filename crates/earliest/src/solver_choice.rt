@@ -1,15 +1,15 @@
 //! Choosing how a problem is searched: by workers or by the search of one thread.
-ghost use Rattle.std.specs.Prelude.{◌≡◌, ◌≤◌, ◌||◌, ℕ, IfOk, IfSome, Option, false, is_some, length, replicate, true, vec_len};
+ghost use Rattle.std.specs.Prelude.{◌≡◌, ◌≤◌, ◌||◌, ℕ, IfOk, IfSome, Option, Some, false, is_some, length, replicate, true, vec_len};
 ghost use Rattle.ea_base.specs.declared.limits.TheConstants.{MOST_AT_ONCE, MOST_STARTS, MOST_WORKERS};
 ghost use Rattle.ea_load.specs.Posed.{IsPosed};
 ghost use Rattle.ea_engine.specs.Companies.{idle_with, IsIdleFor, LeavesAs};
 ghost use Rattle.ea_engine.specs.Limits.{AreSettings};
 ghost use Rattle.ea_engine.specs.Tallies.{IsTally};
 ghost use Rattle.ea_options.specs.Limits.{AreOptions, counted_workers};
-ghost use Rattle.earliest.specs.Counted.{AreOfOne, CanRun, IsTotal, KeepsOn, totals_by};
+ghost use Rattle.earliest.specs.Counted.{AreOfOne, CanRun, CanRunCopies, IsTotal, totals_by};
 ghost use Rattle.ea_rank_command.specs.Generators.{generators_from};
-ghost use Rattle.earliest.specs.Running.{IsFoundByWorkers};
-ghost use Rattle.earliest.specs.Choices.{AreSettingsFor, IsChosen, asks_for_workers, at_once_on, goes_ahead, workers_asked, workers_by, workers_for, workers_on};
+ghost use Rattle.earliest.specs.Running.{IsFoundAndCounted, IsFoundByWorkers};
+ghost use Rattle.earliest.specs.Choices.{AreSettingsFor, CanChoose, CanLimit, CanSetUp, IsChosen, asks_for_workers, at_once_on, goes_ahead, workers_asked, workers_by, workers_for, workers_on};
 ghost use Rattle.earliest.specs.Workers.{AreAtHome, settings_with};
 
 use crate::totals::work_of;
@@ -75,16 +75,15 @@ fn processors_if<H: Threads>(rt: &H, decides: bool) -> Option<usize>
 /// else one for each processor.
 pub(crate) fn threads_at_once<H: Threads>(rt: &H, options: &RunOptions) -> usize
     requires { AreOptions options.now }
-    ensures limits { (1 ≤ result) × (result ≤ MOST_AT_ONCE) }
-    ensures chosen { (processors : Option ℕ) × (result ≡ at_once_on processors options.now) }
+    ensures { (processors : Option ℕ)
+        × IsChosen MOST_AT_ONCE (at_once_on processors options.now) result }
 {
     at_once(processors(rt), options)
 }
 
 /// The same with this number of processors.
 fn at_once(processors: Option<usize>, options: &RunOptions) -> usize
-    requires options { AreOptions options.now }
-    requires processors { IfSome processors (λ count. 1 ≤ count) }
+    requires { CanChoose options.now processors }
     ensures { IsChosen MOST_AT_ONCE (at_once_on processors options.now) result }
 {
     match options.at_once {
@@ -129,8 +128,7 @@ fn workers_on(processors: Option<usize>, nodes: u32) -> u32
 /// As many workers as asked for, and at most one for each processor, since more would wait for one another.
 /// One if they are too few for this number of nodes.
 fn workers_asked(processors: Option<usize>, workers: u32, nodes: u32) -> u32
-    requires processors { IfSome processors (λ count. 1 ≤ count) }
-    requires workers { (1 ≤ workers) × (workers ≤ MOST_WORKERS) }
+    requires { CanLimit processors (Some workers) }
     ensures { IsChosen MOST_WORKERS (workers_asked processors workers nodes) result }
 {
     let most = processors.unwrap_or(MOST_WORKERS as usize);
@@ -146,8 +144,7 @@ fn workers_asked(processors: Option<usize>, workers: u32, nodes: u32) -> u32
 /// program may choose, one for each processor if that is faster. `is_alone` says that the program chooses one: walks,
 /// a single target or some nodes are asked for.
 fn workers_by(processors: Option<usize>, workers: Option<u64>, nodes: u32, is_alone: bool) -> u32
-    requires processors { IfSome processors (λ count. 1 ≤ count) }
-    requires workers { IfSome workers (λ count. (1 ≤ count) × (count ≤ MOST_WORKERS)) }
+    requires { CanLimit processors workers }
     ensures { IsChosen MOST_WORKERS (workers_by processors workers nodes is_alone) result }
 {
     match workers {
@@ -164,8 +161,7 @@ fn workers_by(processors: Option<usize>, workers: Option<u64>, nodes: u32, is_al
 /// The number of workers that search a problem on this number of nodes; `is_few` says that only a target or chosen nodes
 /// are asked, and the search of one thread ends early. With statistics, those that are counted. One means that search.
 fn workers_for(processors: Option<usize>, nodes: u32, is_few: bool, options: &RunOptions) -> u32
-    requires options { AreOptions options.now }
-    requires processors { IfSome processors (λ count. 1 ≤ count) }
+    requires { CanChoose options.now processors }
     ensures { IsChosen MOST_WORKERS (workers_for processors nodes is_few options.now) result }
 {
     if options.stats {
@@ -187,10 +183,9 @@ pub(crate) fn workers_of<H: Threads>(
     are_few: bool,
 ) -> u32
     requires { AreOptions options.now }
-    ensures some { (1 ≤ result) × (result ≤ MOST_WORKERS) }
     ensures counted { options.now.stats ≡ true → result ≡ counted_workers options.now }
-    ensures chosen { (processors : Option ℕ) × (result ≡ workers_for processors
-        road.now.network.nodes (is_some query.now.target || are_few) options.now) }
+    ensures chosen { (processors : Option ℕ) × IsChosen MOST_WORKERS (workers_for processors
+        road.now.network.nodes (is_some query.now.target || are_few) options.now) result }
 {
     let nodes = road.network.nodes();
     let is_few = query.target().is_some() || are_few;
@@ -210,8 +205,7 @@ const BATCH: u64 = 32;
 /// The settings of this number of workers. Turns are limited if statistics are asked for, or if the option
 /// isn't the default.
 fn settings_of(options: &RunOptions, workers: u32) -> Settings
-    requires options { AreOptions options.now }
-    requires workers { (1 ≤ workers) × (workers ≤ MOST_WORKERS) }
+    requires { CanSetUp options.now workers }
     ensures { AreSettingsFor options.now workers result }
 {
     let is_alone = workers == 1;
@@ -317,8 +311,7 @@ fn find_walks<H: Threads + Sync, R: Rng + Send + Drop, T: FnMut(Turn) -> Flow + 
     requires posed { IsPosed road.now query.now }
     requires crew { CanRun T.IsAlwaysCallable T.step settings
         (vec_len rngs) (vec_len tracers) tracers.items }
-    ensures found { IfOk result (IsFoundByWorkers true road.now query.now) }
-    ensures counted { IfOk result (λ found. IsTotal settings query.now found.totals) }
+    ensures { IfOk result (IsFoundAndCounted true settings road.now query.now) }
 {
     let solved = solve(
         alloc,
@@ -358,8 +351,7 @@ fn find_arrivals<H: Threads + Sync, R: Rng + Send + Drop, T: FnMut(Turn) -> Flow
     requires posed { IsPosed road.now query.now }
     requires crew { CanRun T.IsAlwaysCallable T.step settings
         (vec_len rngs) (vec_len tracers) tracers.items }
-    ensures found { IfOk result (IsFoundByWorkers false road.now query.now) }
-    ensures counted { IfOk result (λ found. IsTotal settings query.now found.totals) }
+    ensures { IfOk result (IsFoundAndCounted false settings road.now query.now) }
 {
     let solved = solve_arrivals(
         alloc,
@@ -397,13 +389,10 @@ fn find_by<H: Threads + Sync, R: Rng + Send + Drop, T: FnMut(Turn) -> Flow + Sen
     tracer: T,
 ) -> Result<Found, AllocError>
     requires posed { IsPosed asked.road.now asked.query.now }
-    requires settings { AreSettings settings }
-    requires workers { vec_len rngs ≡ settings.workers }
     requires tracer { T.IsAlwaysCallable tracer }
-    requires stays { KeepsOn T.step settings.workers tracer }
-    ensures found { IfOk result
-        (IsFoundByWorkers asked.entry.walks asked.entry.road.now asked.entry.query.now) }
-    ensures counted { IfOk result (λ found. IsTotal settings asked.entry.query.now found.totals) }
+    requires crew { CanRunCopies T.step settings (vec_len rngs) tracer }
+    ensures { IfOk result (IsFoundAndCounted asked.entry.walks settings
+        asked.entry.road.now asked.entry.query.now) }
 {
     let Asked { road, query, walks } = asked;
     let tracers = copies(alloc, tracer, settings.workers)?;
@@ -424,8 +413,7 @@ pub(crate) fn find<H: Threads + Sync>(
     workers: u32,
 ) -> Result<Found, AllocError>
     requires posed { IsPosed road.now query.now }
-    requires options { AreOptions options.now }
-    requires workers { (1 ≤ workers) × (workers ≤ MOST_WORKERS) }
+    requires can { CanSetUp options.now workers }
     ensures found { IfOk result (IsFoundByWorkers options.now.walks road.now query.now) }
     ensures counted { IfOk result (λ found. options.now.stats ≡ true
         → IsTotal (settings_with options.now workers) query.now found.totals) }

@@ -1,8 +1,7 @@
 //! The totals of problems.
-ghost use Rattle.std.specs.Prelude.{◌≡◌, ◌+◌, ◌*◌, ◌^◌, ◌≤◌, ◌<◌, ℕ, length};
-ghost use Rattle.ea_base.specs.declared.limits.TheConstants.{MOST_STARTS};
-ghost use Rattle.earliest.specs.Counted.{AreBalanced, AreNoTotals, AreOfOne, AreSmall};
-ghost use Rattle.earliest.specs.Running.{AddsTotals};
+ghost use Rattle.std.specs.Prelude.{◌≡◌, ◌+◌, ◌*◌, ◌≤◌, length};
+ghost use Rattle.earliest.specs.Counted.{AreNoTotals, AreOfOne};
+ghost use Rattle.earliest.specs.Running.{AddsTotals, AreSoFar};
 ghost use Rattle.earliest.specs.Worked.{AreNarrow, HasRoom, IsWorkOf, work_with};
 
 use ea_engine::Counters;
@@ -75,8 +74,7 @@ pub(crate) fn work_of(counters: &[Counters]) -> Work
 
 /// The totals of more problems.
 pub(crate) fn add_totals(totals: &mut Totals, more: &Totals)
-    requires few { (problems : ℕ) × (problems < MOST_STARTS) × AreSmall problems totals.old }
-    requires balanced { AreBalanced totals.old }
+    requires so_far { AreSoFar totals.old }
     requires more { AreOfOne more.now }
     ensures { AddsTotals totals.old more.now totals.new }
 {

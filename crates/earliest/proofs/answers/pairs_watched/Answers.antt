@@ -18,17 +18,17 @@ use Rattle.earliest.proofs.Extras.{shown_for, extra_fault_for, extras_for, optio
 use Rattle.earliest.proofs.Sending.{cuts_short}
 use Rattle.earliest.proofs.answers.pairs_watched.Goals as goal
 
-pub returns-in_err-files-clause-failed : goal.returns-in_err-files-clause-failed
-returns-in_err-files-clause-failed g c =
+pub returns-in_err-files : goal.returns-in_err-files
+returns-in_err-files g c =
     let p = err_from_is_err_and c.from_residual.result c.from_residual.ensures.1 in
     let o = c.args.options.now in
     let gr = reading g.G.Device.seen c.args.gr.now c.read_pairs.new.gr in
     let starts = reading g.P.Device.seen c.args.p2p.now c.read_pairs.new.p2p in
     let others = optional_files c.read_pairs.new.tp c.args.others.now.times c.args.others.now.nodes in
-    rw (p.1, p.2) (files_failed (pair_asks o) (files_of gr starts g.T.Device.seen c.args.others.now others) _ _ (first_there g.T.Device.seen (pair_asks o) gr starts c.args.others.now others _ c.in_err-files.ensures.fault refl refl))
+    rw (p.1, p.2) (record { answered = tt; failed = (files_failed (pair_asks o) (files_of gr starts g.T.Device.seen c.args.others.now others) _ _ (first_there g.T.Device.seen (pair_asks o) gr starts c.args.others.now others _ c.in_err-files.ensures.fault refl refl)) })
 
-pub returns-in_err-extras-clause-failed : goal.returns-in_err-extras-clause-failed
-returns-in_err-extras-clause-failed g c =
+pub returns-in_err-extras : goal.returns-in_err-extras
+returns-in_err-extras g c =
     let p = err_from_is_err_and c.from_residual-in_err-extras.result c.from_residual-in_err-extras.ensures.1 in
     let o = c.args.options.now in
     let given = c.in_ok-files.ensures.given in
@@ -40,7 +40,7 @@ returns-in_err-extras-clause-failed g c =
     let road = road_there (pair_asks o) g.T.Device.seen gr starts c.args.others.now others given.0 found.pairs.items given.1 c.in_ok-files.ensures.gr_borne c.in_ok-files.ensures.p2p_borne c.in_ok-files.ensures.tp_borne in
     let many : c.len.result ≡ length found.pairs.items = omega (arith, c.len.ensures, found.pairs.ok.0) in
     let size : c.nodes.result ≡ given.0.graph.nodes = c.nodes.ensures.nodes ∙ ap (λ (r : Roads). r.nodes) given.2.network in
-    rw (p.1, p.2) (files_failed (pair_asks o) files _ _ (in_extras given.0 found.pairs.items road (extra_fault_for _ (length found.pairs.items) _ given.0.graph.nodes files.extras _ many size c.in_err-extras.ensures.fault)))
+    rw (p.1, p.2) (record { answered = tt; failed = (files_failed (pair_asks o) files _ _ (in_extras given.0 found.pairs.items road (extra_fault_for _ (length found.pairs.items) _ given.0.graph.nodes files.extras _ many size c.in_err-extras.ensures.fault))) })
 
 pub departures_fit-requires-clause-times : goal.departures_fit-requires-clause-times
 departures_fit-requires-clause-times g c =
@@ -64,8 +64,8 @@ pair_queries-requires-clause-within g c =
     let fits : IsTrue c.departures_fit.result = search rules in
     λ i inside. c.departures_fit.ensures.0 fits i (omega (arith, inside, c.deref.ensures.len, c.len-2.ensures))
 
-pub prepared_for-prepared-requires-clause-problems : goal.prepared_for-prepared-requires-clause-problems
-prepared_for-prepared-requires-clause-problems g c =
+pub prepared_for-prepared-requires : goal.prepared_for-prepared-requires
+prepared_for-prepared-requires g c =
     let o = c.args.options.now in
     let given = c.in_ok-files.ensures.given in
     let found = c.in_ok-files.files in
@@ -78,10 +78,15 @@ prepared_for-prepared-requires-clause-problems g c =
     let nodes = pairs_are_nodes given.0.graph.nodes _ found.pairs.items given.1.starts_denoted in
     let whole = given_is_sound DenotesPairs _ _ _ given.0 found.pairs.items given.1 in
     let queries = c.deref-2.ensures.value ∙ c.in_ok-queries.ensures ∙ ap (λ (p : Plan). pair_problems p 0 c.deref.result.now) plan ∙ ap (λ (xs : List (ℕ × ℕ)). pair_problems (plan_by o extras.times) 0 xs) c.deref.ensures.value in
-    subst (AreProblems found.road) (sym queries) (pairs_are_posed given.0 found.road o.direction given.2 whole (plan_by o extras.times) found.pairs.items nodes.0 within)
+    record {
+      can = record {
+        problems = subst (AreProblems found.road) (sym queries) (pairs_are_posed given.0 found.road o.direction given.2 whole (plan_by o extras.times) found.pairs.items nodes.0 within);
+        options_are = c.requires;
+      };
+    }
 
-pub report_all-requires-clause-problems : goal.report_all-requires-clause-problems
-report_all-requires-clause-problems g c κs lent =
+pub report_all-requires-clause-run : goal.report_all-requires-clause-run
+report_all-requires-clause-run g c κs lent =
     let o = c.args.options.now in
     let given = c.in_ok-files.ensures.given in
     let found = c.in_ok-files.files in
@@ -94,36 +99,23 @@ report_all-requires-clause-problems g c κs lent =
     let nodes = pairs_are_nodes given.0.graph.nodes _ found.pairs.items given.1.starts_denoted in
     let whole = given_is_sound DenotesPairs _ _ _ given.0 found.pairs.items given.1 in
     let queries = c.deref-3.ensures.value ∙ c.in_ok-queries.ensures ∙ ap (λ (p : Plan). pair_problems p 0 c.deref.result.now) plan ∙ ap (λ (xs : List (ℕ × ℕ)). pair_problems (plan_by o extras.times) 0 xs) c.deref.ensures.value in
-    subst (AreProblems found.road) (sym queries) (pairs_are_posed given.0 found.road o.direction given.2 whole (plan_by o extras.times) found.pairs.items nodes.0 within)
-
-pub report_all-requires-clause-few : goal.report_all-requires-clause-few
-report_all-requires-clause-few g c κs lent =
-    let o = c.args.options.now in
-    let given = c.in_ok-files.ensures.given in
-    let found = c.in_ok-files.files in
-    let gr = reading g.G.Device.seen c.args.gr.now c.read_pairs.new.gr in
-    let starts = reading g.P.Device.seen c.args.p2p.now c.read_pairs.new.p2p in
-    let extras = extras_in c.in_ok-extras.extras in
-    let plan = c.schedule_by-schedule.ensures.plan in
-    let nodes = pairs_are_nodes given.0.graph.nodes _ found.pairs.items given.1.starts_denoted in
-    let whole = given_is_sound DenotesPairs _ _ _ given.0 found.pairs.items given.1 in
-    let queries = c.deref-3.ensures.value ∙ c.in_ok-queries.ensures ∙ ap (λ (p : Plan). pair_problems p 0 c.deref.result.now) plan ∙ ap (λ (xs : List (ℕ × ℕ)). pair_problems (plan_by o extras.times) 0 xs) c.deref.ensures.value in
-    (subst (λ qs. length qs ≤ 1000000) (sym queries) (few_pairs given.0 found.road o.direction given.2 whole (plan_by o extras.times) found.pairs.items nodes.1), few_nodes given.0 found.road o.direction given.2 whole)
-
-pub report_all-requires-clause-asked : goal.report_all-requires-clause-asked
-report_all-requires-clause-asked g c κs lent =
-    let shown = c.shown_by-shown.ensures in
-    shown ∙ ap (λ (shape : Shape). shape_by c.args.options.now shape.chosen) (sym shown)
-
-pub report_all-requires-clause-shown : goal.report_all-requires-clause-shown
-report_all-requires-clause-shown g c κs lent =
-    let found = c.in_ok-files.files in
+    let shows = c.shown_by-shown.ensures in
     let shape = shape_of c.shown_by-shown.result in
     let chosen = ap (λ (s : Shape). s.chosen) c.shown_by-shown.ensures in
-    shown_for found.road.network shape _ _ _ _ c.nodes.ensures.nodes chosen c.in_ok-extras.ensures.extras.nodes
+    record {
+      reportable = record {
+        problems = subst (AreProblems found.road) (sym queries) (pairs_are_posed given.0 found.road o.direction given.2 whole (plan_by o extras.times) found.pairs.items nodes.0 within);
+        few = subst (λ qs. length qs ≤ 1000000) (sym queries) (few_pairs given.0 found.road o.direction given.2 whole (plan_by o extras.times) found.pairs.items nodes.1);
+        few_nodes = few_nodes given.0 found.road o.direction given.2 whole;
+        shown = shown_for found.road.network shape _ _ _ _ c.nodes.ensures.nodes chosen c.in_ok-extras.ensures.extras.nodes;
+      };
+      options_are = c.requires;
+      asked = shows ∙ ap (λ (shape : Shape). shape_by c.args.options.now shape.chosen) (sym shows);
+      aids = search rules;
+    }
 
-pub returns-clause-answered : goal.returns-clause-answered
-returns-clause-answered g c =
+pub returns : goal.returns
+returns g c =
     let o = c.args.options.now in
     let given = c.in_ok-files.ensures.given in
     let found = c.in_ok-files.files in
@@ -146,36 +138,13 @@ returns-clause-answered g c =
     let first = g.W.Device.seen c.args.out.now in
     let now = g.W.Device.seen c.report_all.new.out in
     let chosen = ap (λ (s : Shape). s.chosen) c.shown_by-shown.ensures in
-    answered (pair_asks o) files given.0 found.pairs.items extras sound within found.road given.2 _ chosen c.deref-3.result.now queries first now c.report_all.result c.report_all.ensures.ok
+    record {
+      answered = answered (pair_asks o) files given.0 found.pairs.items extras sound within found.road given.2 _ chosen c.deref-3.result.now queries first now c.report_all.result c.report_all.ensures.ok;
+      failed = failed (pair_asks o) files given.0 found.pairs.items extras sound within found.road given.2 _ chosen c.deref-3.result.now queries (cuts_short o) first now c.report_all.result c.report_all.ensures.err;
+    }
 
-pub returns-clause-failed : goal.returns-clause-failed
-returns-clause-failed g c =
-    let o = c.args.options.now in
-    let given = c.in_ok-files.ensures.given in
-    let found = c.in_ok-files.files in
-    let gr = reading g.G.Device.seen c.args.gr.now c.read_pairs.new.gr in
-    let starts = reading g.P.Device.seen c.args.p2p.now c.read_pairs.new.p2p in
-    let others = optional_files c.read_pairs.new.tp c.read_extras.new.times c.read_extras.new.asked in
-    let files = files_of gr starts g.T.Device.seen c.args.others.now others in
-    let road = road_there (pair_asks o) g.T.Device.seen gr starts c.args.others.now others given.0 found.pairs.items given.1 c.in_ok-files.ensures.gr_borne c.in_ok-files.ensures.p2p_borne c.in_ok-files.ensures.tp_borne in
-    let many : c.len.result ≡ length found.pairs.items = omega (arith, c.len.ensures, found.pairs.ok.0) in
-    let size : c.nodes.result ≡ given.0.graph.nodes = c.nodes.ensures.nodes ∙ ap (λ (r : Roads). r.nodes) given.2.network in
-    let extras = extras_in c.in_ok-extras.extras in
-    let extra = extras_for _ (length found.pairs.items) _ given.0.graph.nodes files.extras extras many size c.in_ok-extras.ensures.extras in
-    let sound : AreSound (pair_asks o) files given.0 found.pairs.items extras = record { road = road; extra = extra } in
-    let plan = c.schedule_by-schedule.ensures.plan in
-    let fits : IsTrue c.departures_fit.result = search rules in
-    let within : AreWithin (plan_by o extras.times) (length found.pairs.items) = subst (λ (p : Plan). AreWithin p (length found.pairs.items)) plan (λ i inside. c.departures_fit.ensures.0 fits i (omega (arith, inside, c.len-2.ensures, found.pairs.ok.0))) in
-    let nodes = pairs_are_nodes given.0.graph.nodes _ found.pairs.items given.1.starts_denoted in
-    let whole = given_is_sound DenotesPairs _ _ _ given.0 found.pairs.items given.1 in
-    let queries = c.deref-3.ensures.value ∙ c.in_ok-queries.ensures ∙ ap (λ (p : Plan). pair_problems p 0 c.deref.result.now) plan ∙ ap (λ (xs : List (ℕ × ℕ)). pair_problems (plan_by o extras.times) 0 xs) c.deref.ensures.value in
-    let first = g.W.Device.seen c.args.out.now in
-    let now = g.W.Device.seen c.report_all.new.out in
-    let chosen = ap (λ (s : Shape). s.chosen) c.shown_by-shown.ensures in
-    failed (pair_asks o) files given.0 found.pairs.items extras sound within found.road given.2 _ chosen c.deref-3.result.now queries (cuts_short o) first now c.report_all.result c.report_all.ensures.err
-
-pub returns-then-not-departures_fit-clause-failed : goal.returns-then-not-departures_fit-clause-failed
-returns-then-not-departures_fit-clause-failed g c =
+pub returns-then-not-departures_fit : goal.returns-then-not-departures_fit
+returns-then-not-departures_fit g c =
     let o = c.args.options.now in
     let given = c.in_ok-files.ensures.given in
     let found = c.in_ok-files.files in
@@ -192,11 +161,11 @@ returns-then-not-departures_fit-clause-failed g c =
     let plan = c.schedule_by-schedule.ensures.plan in
     let late : AreWithin (plan_by o extras.times) (length found.pairs.items) → ⊥ =
     λ within. let fits : IsTrue c.departures_fit.result = c.departures_fit.ensures.1 (λ i inside. subst (λ (p : Plan). AreWithin p (length found.pairs.items)) (sym plan) within i (omega (arith, inside, c.len-2.ensures, found.pairs.ok.0))) in search rules
-    in (record { given = given.0; found = found.pairs.items; extras = extras; sound = sound; late = late }, refl)
+    in record { answered = tt; failed = (record { given = given.0; found = found.pairs.items; extras = extras; sound = sound; late = late }, refl) }
 
 -- all files were read
-pub returns-in_err-queries-clause-failed : goal.returns-in_err-queries-clause-failed
-returns-in_err-queries-clause-failed g c =
+pub returns-in_err-queries : goal.returns-in_err-queries
+returns-in_err-queries g c =
     let p = err_from_is_err_and c.from_residual-in_err-queries.result c.from_residual-in_err-queries.ensures.1 in
     let o = c.args.options.now in
     let given = c.in_ok-files.ensures.given in
@@ -211,4 +180,4 @@ returns-in_err-queries-clause-failed g c =
     let extras = extras_in c.in_ok-extras.extras in
     let extra = extras_for _ (length found.pairs.items) _ given.0.graph.nodes files.extras extras many size c.in_ok-extras.ensures.extras in
     let sound : AreSound (pair_asks o) files given.0 found.pairs.items extras = record { road = road; extra = extra } in
-    rw (p.1, p.2) (inl (refl, refl, inr (all_read (pair_asks o) files given.0 found.pairs.items extras sound)))
+    rw (p.1, p.2) (record { answered = tt; failed = (inl (refl, refl, inr (all_read (pair_asks o) files given.0 found.pairs.items extras sound))) })

@@ -19,18 +19,18 @@ use Rattle.earliest.proofs.Extras.{extra_fault_for, extras_for, optional_files, 
 use Rattle.earliest.proofs.Verdicts.{judged, unread}
 use Rattle.earliest.proofs.checks.check_watched.Goals as goal
 
-pub returns-in_err-files-clause-unjudged : goal.returns-in_err-files-clause-unjudged
-returns-in_err-files-clause-unjudged g c =
+pub returns-in_err-files : goal.returns-in_err-files
+returns-in_err-files g c =
     let p = err_from_is_err_and c.from_residual.result c.from_residual.ensures.1 in
     let o = c.args.options.now in
     let gr = reading g.G.Device.seen c.args.gr.now c.read_run_by.new.gr in
     let ss = reading g.S.Device.seen c.args.ss.now c.read_run_by.new.ss in
     let others = optional_files c.read_run_by.new.tp c.args.others.now.times c.args.others.now.nodes in
     let report = reading g.R.Device.seen c.args.report.now c.args.report.now in
-    rw (p.1, p.2) (unread o (files_of gr ss g.T.Device.seen c.args.others.now others) report _ (in_run (first_there g.T.Device.seen (run_asks o) gr ss c.args.others.now others _ c.in_err-files.ensures.fault refl refl)))
+    rw (p.1, p.2) (record { judged = tt; unjudged = (unread o (files_of gr ss g.T.Device.seen c.args.others.now others) report _ (in_run (first_there g.T.Device.seen (run_asks o) gr ss c.args.others.now others _ c.in_err-files.ensures.fault refl refl))) })
 
-pub returns-in_err-extras-clause-unjudged : goal.returns-in_err-extras-clause-unjudged
-returns-in_err-extras-clause-unjudged g c =
+pub returns-in_err-extras : goal.returns-in_err-extras
+returns-in_err-extras g c =
     let p = err_from_is_err_and c.from_residual-in_err-extras.result c.from_residual-in_err-extras.ensures.1 in
     let o = c.args.options.now in
     let given = c.in_ok-files.ensures.given in
@@ -43,7 +43,7 @@ returns-in_err-extras-clause-unjudged g c =
     let many : c.len.result ≡ length found.sources.items = omega (arith, c.len.ensures, found.sources.ok.0) in
     let size : c.nodes.result ≡ given.0.graph.nodes = c.nodes.ensures.nodes ∙ ap (λ (r : Roads). r.nodes) given.2.network in
     let report = reading g.R.Device.seen c.args.report.now c.args.report.now in
-    rw (p.1, p.2) (unread o files report _ (in_run (in_extras given.0 found.sources.items road (extra_fault_for _ (length found.sources.items) _ given.0.graph.nodes files.extras _ many size c.in_err-extras.ensures.fault))))
+    rw (p.1, p.2) (record { judged = tt; unjudged = (unread o files report _ (in_run (in_extras given.0 found.sources.items road (extra_fault_for _ (length found.sources.items) _ given.0.graph.nodes files.extras _ many size c.in_err-extras.ensures.fault)))) })
 
 pub departures_fit-requires-clause-times : goal.departures_fit-requires-clause-times
 departures_fit-requires-clause-times g c =
@@ -51,8 +51,8 @@ departures_fit-requires-clause-times g c =
     schedule_has o c.schedule_by-schedule.result _ (extras_in c.in_ok-extras.extras).times _ _ c.schedule_by-schedule.ensures.plan c.in_ok-extras.ensures.extras.times _ (omega (arith, c.len.ensures, c.len-2.ensures))
 
 -- a time is beyond the horizon
-pub returns-in_err-judge-clause-unjudged : goal.returns-in_err-judge-clause-unjudged
-returns-in_err-judge-clause-unjudged g c =
+pub returns-in_err-judge : goal.returns-in_err-judge
+returns-in_err-judge g c =
     let p = err_from_is_err_and c.from_residual-in_err-judge.result c.from_residual-in_err-judge.ensures.1 in
     let o = c.args.options.now in
     let given = c.in_ok-files.ensures.given in
@@ -68,10 +68,10 @@ returns-in_err-judge-clause-unjudged g c =
     let extra = extras_for _ (length found.sources.items) _ given.0.graph.nodes files.extras extras many size c.in_ok-extras.ensures.extras in
     let sound : AreSound (run_asks o) files given.0 found.sources.items extras = record { road = road; extra = extra } in
     let report = reading g.R.Device.seen c.args.report.now c.judge.new.report in
-    rw (p.1, p.2) (unread o files report _ (in_report (given.0, found.sources.items, extras, sound) c.in_err-judge.ensures.fault))
+    rw (p.1, p.2) (record { judged = tt; unjudged = (unread o files report _ (in_report (given.0, found.sources.items, extras, sound) c.in_err-judge.ensures)) })
 
-pub returns-then-not-departures_fit-clause-unjudged : goal.returns-then-not-departures_fit-clause-unjudged
-returns-then-not-departures_fit-clause-unjudged g c =
+pub returns-then-not-departures_fit : goal.returns-then-not-departures_fit
+returns-then-not-departures_fit g c =
     let o = c.args.options.now in
     let given = c.in_ok-files.ensures.given in
     let found = c.in_ok-files.files in
@@ -88,8 +88,8 @@ returns-then-not-departures_fit-clause-unjudged g c =
     let plan = c.schedule_by-schedule.ensures.plan in
     let late : AreWithin (plan_by o extras.times) (length found.sources.items) → ⊥ =
     λ within. let fits : IsTrue c.departures_fit.result = c.departures_fit.ensures.1 (λ i inside. subst (λ (p : Plan). AreWithin p (length found.sources.items)) (sym plan) within i (omega (arith, inside, c.len-2.ensures, found.sources.ok.0))) in search rules in
-    let has = c.in_ok-judge.ensures.judged in
-    (record { given = given.0; found = found.sources.items; extras = extras; sound = sound; late = late }, (has.0, has.1))
+    let has = c.in_ok-judge.ensures in
+    record { judged = tt; unjudged = (record { given = given.0; found = found.sources.items; extras = extras; sound = sound; late = late }, (has.0, has.1)) }
 
 pub run_queries-requires-clause-nodes : goal.run_queries-requires-clause-nodes
 run_queries-requires-clause-nodes g c =
@@ -107,8 +107,8 @@ run_queries-requires-clause-within g c =
     let fits : IsTrue c.departures_fit.result = search rules in
     λ i inside. c.departures_fit.ensures.0 fits i (omega (arith, inside, c.deref.ensures.len, c.len-2.ensures))
 
-pub returns-in_err-queries-clause-unjudged : goal.returns-in_err-queries-clause-unjudged
-returns-in_err-queries-clause-unjudged g c =
+pub returns-in_err-queries : goal.returns-in_err-queries
+returns-in_err-queries g c =
     let p = err_from_is_err_and c.from_residual-in_err-queries.result c.from_residual-in_err-queries.ensures.1 in
     let o = c.args.options.now in
     let given = c.in_ok-files.ensures.given in
@@ -123,7 +123,7 @@ returns-in_err-queries-clause-unjudged g c =
     let extras = extras_in c.in_ok-extras.extras in
     let extra = extras_for _ (length found.sources.items) _ given.0.graph.nodes files.extras extras many size c.in_ok-extras.ensures.extras in
     let sound : AreSound (run_asks o) files given.0 found.sources.items extras = record { road = road; extra = extra } in
-    rw (p.1, p.2) (refl, inr (all_read (run_asks o) files given.0 found.sources.items extras sound, (refl, omega arith)))
+    rw (p.1, p.2) (record { judged = tt; unjudged = (refl, inr (all_read (run_asks o) files given.0 found.sources.items extras sound, (refl, omega arith))) })
 
 pub judge-requires-2-clause-checkable : goal.judge-requires-2-clause-checkable
 judge-requires-2-clause-checkable g c κs within_call =
@@ -143,8 +143,8 @@ judge-requires-2-clause-checkable g c κs within_call =
     (subst (AreProblems found.road) (sym queries) (run_is_posed given.0 found.road o.direction given.2 whole (plan_by o extras.times) o.joint found.sources.items nodes within))
     (subst (All (λ (query : Asking). query.target ≡ None)) (sym queries) (none_aimed o.joint (plan_by o extras.times) found.sources.items))
 
-pub returns-in_err-verdict-clause-unjudged : goal.returns-in_err-verdict-clause-unjudged
-returns-in_err-verdict-clause-unjudged g c =
+pub returns-in_err-verdict : goal.returns-in_err-verdict
+returns-in_err-verdict g c =
     let p = err_from_is_err_and c.from_residual-in_err-verdict.result c.from_residual-in_err-verdict.ensures.1 in
     let o = c.args.options.now in
     let given = c.in_ok-files.ensures.given in
@@ -160,10 +160,10 @@ returns-in_err-verdict-clause-unjudged g c =
     let extra = extras_for _ (length found.sources.items) _ given.0.graph.nodes files.extras extras many size c.in_ok-extras.ensures.extras in
     let sound : AreSound (run_asks o) files given.0 found.sources.items extras = record { road = road; extra = extra } in
     let report = reading g.R.Device.seen c.args.report.now c.judge-2.new.report in
-    rw (p.1, p.2) (unread o files report _ (in_report (given.0, found.sources.items, extras, sound) c.in_err-verdict.ensures.fault))
+    rw (p.1, p.2) (record { judged = tt; unjudged = (unread o files report _ (in_report (given.0, found.sources.items, extras, sound) c.in_err-verdict.ensures)) })
 
-pub returns-clause-judged : goal.returns-clause-judged
-returns-clause-judged g c =
+pub returns : goal.returns
+returns g c =
     let o = c.args.options.now in
     let given = c.in_ok-files.ensures.given in
     let found = c.in_ok-files.files in
@@ -184,4 +184,7 @@ returns-clause-judged g c =
     let whole = given_is_sound DenotesSources _ _ _ given.0 found.sources.items given.1 in
     let queries = c.deref-2.ensures.value ∙ c.in_ok-queries.ensures ∙ ap (λ (p : Plan). run_problems o.joint p c.deref.result.now) plan ∙ ap (λ (xs : List ℕ). run_problems o.joint (plan_by o extras.times) xs) c.deref.ensures.value in
     let report = reading g.R.Device.seen c.args.report.now c.judge-2.new.report in
-    judged o files report given.0 found.sources.items extras sound within found.road given.2 c.deref-2.result.now queries c.in_ok-verdict.verdict c.in_ok-verdict.ensures.judged
+    record {
+      judged = judged o files report given.0 found.sources.items extras sound within found.road given.2 c.deref-2.result.now queries c.in_ok-verdict.verdict c.in_ok-verdict.ensures;
+      unjudged = tt;
+    }

@@ -31,9 +31,9 @@ loop-query-preserved g c =
       fits = inv.fits;
       sent = sent_next (shape_of c.args.watched.shown) c.args.road.now.network (times_on c.args.road.now) c.args.queries.now i c.query-item.result c.loop-query-test.true c.query-item.is first _ now _ c.report.new.self.progress.written inv.fits inv.sent c.in_ok-report.ensures.sends.sent;
       bound = omega (arith, c.in_ok-report.ensures.sends.bound, inv.bound);
-      counted = λ asked. let more = c.in_ok-report.ensures.counted asked in totals_next (settings_by c.args.options.now) c.args.queries.now i c.query-item.result c.loop-query-test.true c.query-item.is _ _ (inv.counted asked) more.0 more.1 more.2;
-      small = c.in_ok-report.ensures.more.small i inv.small;
-      balanced = c.in_ok-report.ensures.more.balanced;
+      counted = λ asked. let more = c.in_ok-report.ensures.adds.counted asked in totals_next (settings_by c.args.options.now) c.args.queries.now i c.query-item.result c.loop-query-test.true c.query-item.is _ _ (inv.counted asked) more.0 more.1 more.2;
+      small = c.in_ok-report.ensures.adds.more.small i inv.small;
+      balanced = c.in_ok-report.ensures.adds.more.balanced;
       aids = c.report.ensures.aided.aids;
       search = c.report.ensures.aided.search;
     }
@@ -81,8 +81,10 @@ report-requires-clause-run g c κs lent =
       walks = ap (λ (shape : Shape). shape.style.walks) c.requires.run.asked;
       running = record {
         room = omega (arith, inv.bound, reportable.few, c.loop-query-test.true);
-        small = (c.loop-query.query-index, omega (arith, reportable.few, c.loop-query-test.true), inv.small);
-        balanced = inv.balanced;
+        so_far = record {
+          small = (c.loop-query.query-index, omega (arith, reportable.few, c.loop-query-test.true), inv.small);
+          balanced = inv.balanced;
+        };
       };
       aided = record { search = inv.search; aids = inv.aids };
     }

@@ -10,10 +10,10 @@ find_walks-requires-clause-crew g c κs within =
     let workers = c.args.settings.workers in
     let copied = c.in_ok-tracers.ensures in
     record {
-      settings_are = c.requires.settings;
-      workers = (c.requires.workers, omega (arith, tracers.ok.0, ap (λ (xs : List _). length xs) copied, length-replicate workers c.args.tracer));
+      settings_are = c.requires.crew.settings_are;
+      workers = (c.requires.crew.workers, omega (arith, tracers.ok.0, ap (λ (xs : List _). length xs) copied, length-replicate workers c.args.tracer));
       callable = λ k d lt. subst (goal.T-IsAlwaysCallable g) (sym (copy_at c.args.tracer workers tracers.items copied k d lt)) c.requires.tracer;
-      stays = λ k d lt. subst (KeepsOn (goal.T-step g) workers) (sym (copy_at c.args.tracer workers tracers.items copied k d lt)) c.requires.stays;
+      stays = λ k d lt. subst (KeepsOn (goal.T-step g) workers) (sym (copy_at c.args.tracer workers tracers.items copied k d lt)) c.requires.crew.stays;
     }
 
 pub find_arrivals-requires-clause-crew : goal.find_arrivals-requires-clause-crew
@@ -22,8 +22,8 @@ find_arrivals-requires-clause-crew g c κs within =
     let workers = c.args.settings.workers in
     let copied = c.in_ok-tracers.ensures in
     record {
-      settings_are = c.requires.settings;
-      workers = (c.requires.workers, omega (arith, tracers.ok.0, ap (λ (xs : List _). length xs) copied, length-replicate workers c.args.tracer));
+      settings_are = c.requires.crew.settings_are;
+      workers = (c.requires.crew.workers, omega (arith, tracers.ok.0, ap (λ (xs : List _). length xs) copied, length-replicate workers c.args.tracer));
       callable = λ k d lt. subst (goal.T-IsAlwaysCallable g) (sym (copy_at c.args.tracer workers tracers.items copied k d lt)) c.requires.tracer;
-      stays = λ k d lt. subst (KeepsOn (goal.T-step g) workers) (sym (copy_at c.args.tracer workers tracers.items copied k d lt)) c.requires.stays;
+      stays = λ k d lt. subst (KeepsOn (goal.T-step g) workers) (sym (copy_at c.args.tracer workers tracers.items copied k d lt)) c.requires.crew.stays;
     }
