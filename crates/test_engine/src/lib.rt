@@ -14,6 +14,8 @@ mod drawn;
 #[cfg(test)]
 mod gated;
 #[cfg(test)]
+mod heaped;
+#[cfg(test)]
 mod homed;
 #[cfg(test)]
 mod large;
