@@ -349,7 +349,7 @@ fn few_nodes_are_near_if_ways_up_are_short(rt: HostRuntime) -> Result<(), Fail> 
 fn more_nodes_are_near_if_ways_up_are_long(rt: HostRuntime) -> Result<(), Fail> {
     // 1,500 nodes that are all joined: from the ranks that are looked at there are on average 400,000 arcs to the top.
     let near = near_in(rt.alloc(), Shape::Clique, 1500).map_err(|_| "prepared")?;
-    assert!(rt; near > Some(700) && near < Some(850));
+    assert!(rt; near > Some(1100) && near < Some(1400));
     Ok(())
 }
 
