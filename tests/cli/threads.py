@@ -134,6 +134,10 @@ def results(program):
             ("--workers 2 --at-once 1", here, 1),
             ("--stats --workers 2", here[:1], 2),
             ("--stats --workers 3", here, 3),
+            # With statistics several problems are searched at once, too, each by one worker.
+            ("--stats --at-once 3", here, 3),
+            ("--stats --at-once 5 --workers 1", here[:1], 5),
+            ("--stats --at-once 5 --workers 2", here[:1], 2),
         ):
             for _ in range(TRIES):
                 was = seen(program, f"run net.gr net.ss {words}", folder, processors)

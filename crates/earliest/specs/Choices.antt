@@ -46,9 +46,17 @@ abbrev pub at_once_on : Option ℕ → RunOptions → ℕ
 at_once_on processors options = unwrap_or options.at_once
     (if is_some options.workers || options.stats then 1 else min (unwrap_or processors 1) MOST_AT_ONCE)
 
--- Statistics, or several workers, are asked for: then problems go one after the other, without preparation or layout.
+-- Statistics, or several workers, are asked for: then there is no preparation, and no layout.
 abbrev pub asks_for_workers : RunOptions → Bool
 asks_for_workers options = options.stats || nat_lt 1 (unwrap_or options.workers 1)
+
+-- A problem is searched by the search of one thread: by one worker, whose turns aren't counted.
+abbrev pub is_alone : RunOptions → ℕ → Bool
+is_alone options workers = (workers == 1) && not options.stats
+
+-- The number of problems that are searched at once, each by a worker whose turns are counted.
+abbrev pub counted_at_once : Option ℕ → RunOptions → ℕ
+counted_at_once processors options = if options.stats && (counted_workers options == 1) then at_once_on processors options else 1
 
 -- One worker for each processor, if that many are faster on this number of nodes than one thread; else one.
 abbrev pub workers_on : Option ℕ → ℕ → ℕ

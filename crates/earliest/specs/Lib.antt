@@ -1,3 +1,4 @@
+pub mod Ahead
 pub mod Checks
 pub mod Choices
 pub mod Counted

@@ -1,5 +1,5 @@
 -- What a run has written and may use, between two problems.
-use Rattle.std.specs.Prelude.{◌≡◌, ◌≤◌, ◌<◌, ◌+◌, ◌*◌, ◌^◌, ℕ, Bool, true, [], if◌then◌else◌, IfErr, IfOk, OnOk, List, Result, Ok, Err}
+use Rattle.std.specs.Prelude.{◌≡◌, ◌≤◌, ◌<◌, ◌+◌, ◌*◌, ◌^◌, ℕ, Bool, true, [], if◌then◌else◌, IfErr, IfOk, IfSome, OnOk, List, Result, Ok, Err}
 use Rattle.std.specs.Io.KnownBytes.{Appends}
 use Rattle.ea_base.specs.declared.limits.TheConstants.{MOST_STARTS}
 use Rattle.ea_bytes.specs.Device.{BearsOn, GivesUp, Seen}
@@ -62,6 +62,11 @@ pub record IsFoundByWorkers (walks : Bool) (road : Road) (query : Asking) (found
   pub canonical : walks ≡ true → AnswersOn road query found.answer
   pub of_one : AreOfOne found.totals
 
+-- And with statistics their turns were counted, with the settings that the options ask for.
+pub record AddsFound (options : RunOptions) (road : Road) (query : Asking) (result : Found) : Type 0 where
+  pub found : IsFoundByWorkers options.walks road query result
+  pub counted : options.stats ≡ true → IsTotal (settings_by options) query result.totals
+
 -- And their turns were counted, with these settings.
 pub record IsFoundAndCounted (walks : Bool) (settings : Settings) (road : Road) (query : Asking) (result : Found) : Type 0 where
   pub found : IsFoundByWorkers walks road query result
@@ -74,6 +79,7 @@ pub record MayReport (road : Road) (query : Asking) (options : RunOptions) (shap
   pub walks : shape.style.walks ≡ options.walks
   pub running : IsRunning reports.progress.written reports.totals
   pub aided : IsAided road shape.style.walks reports.progress.search reports.progress.aids
+  pub found : IfSome reports.found (AddsFound options road query)
 
 -- All problems of a run can be.
 pub record MayReportAll (road : Road) (queries : List Asking) (options : RunOptions) (shape : Shape) (means : Aids) : Type 0 where

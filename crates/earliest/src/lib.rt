@@ -1,6 +1,7 @@
 //! From files to reports: the calls that the program makes.
 #![tactic(auto)]
 
+mod ahead;
 mod answers;
 mod checks;
 mod commands;

@@ -1,14 +1,20 @@
 //! Writing the reports of problems one after another, and their totals.
-ghost use Rattle.std.specs.Prelude.{◌≤◌, ◌+◌, ◌*◌, ◌^◌, OnOk};
+ghost use Rattle.std.specs.Prelude.{◌≡◌, ◌≤◌, ◌+◌, ◌*◌, ◌^◌, IfOk, IfSome, OnOk, true};
 ghost use Rattle.ea_base.specs.declared.limits.TheConstants.{MOST_STARTS};
 ghost use Rattle.ea_report.specs.Asked.{shape_of};
 ghost use Rattle.ea_report.specs.declared.stats.Totals.{Totals};
 ghost use Rattle.ea_batch.specs.Arrays.{IsAided, KeepsArrays};
 ghost use Rattle.ea_batch.specs.Reportable.{IsReportable};
 ghost use Rattle.ea_batch.specs.Sending.{SendsReport};
-ghost use Rattle.earliest.specs.Running.{AddsReport, AddsTotals, HasReportedNothing, IsFoundByWorkers, IsRunning, MayReport, MayReportAll, ReportsAll, WritesAll, WritesTotals};
+ghost use Rattle.ea_load.specs.Posed.{IsPosed};
+ghost use Rattle.ea_options.specs.Limits.{counted_workers};
+ghost use Rattle.earliest.specs.Choices.{CanSetUp};
+ghost use Rattle.earliest.specs.Running.{AddsFound, AddsReport, AddsTotals, HasReportedNothing, IsFoundByWorkers, IsRunning, MayReport, MayReportAll, ReportsAll, WritesAll, WritesTotals};
 
-use crate::solver_choice::{Found, find, goes_ahead, threads_at_once, workers_of};
+use crate::ahead::Ahead;
+use crate::solver_choice::{
+    Found, counted_at_once, find, goes_ahead, is_alone, threads_at_once, workers_of,
+};
 use crate::totals::{add_totals, no_totals};
 use ea_base::Watch;
 use ea_batch::{Aids, Progress, Watched, few_chosen, report_ahead};
@@ -17,7 +23,7 @@ use ea_load::{AnswerFault, Road};
 use ea_options::RunOptions;
 use ea_report::{ReportOptions, Totals, write_stats};
 use ea_road::Query;
-use std::alloc::Global;
+use std::alloc::{AllocError, Global};
 use std::thread::Threads;
 
 /// What was sent so far, and the totals of its problems.
@@ -25,6 +31,8 @@ use std::thread::Threads;
 pub(crate) struct Reports<'a> {
     pub totals: Totals,
     pub progress: Progress<'a>,
+    /// What was found of the next problem, if it was searched before its turn.
+    pub found: Option<Found>,
 }
 
 impl<'a> Reports<'a> {
@@ -35,6 +43,7 @@ impl<'a> Reports<'a> {
         Reports {
             totals: no_totals(),
             progress: Progress::begin(aids, None),
+            found: None,
         }
     }
 }
@@ -88,14 +97,38 @@ impl Reports<'_> {
     {
         let are_few = few_chosen(road.network.nodes(), shown).is_some();
         let workers = workers_of(rt, road, query, options, are_few);
-        if workers == 1 && !options.stats {
+        if is_alone(options, workers) {
             return self.progress.report_alone(alloc, road, query, shown, out);
         }
-        match find(alloc, rt, road, query, options, workers) {
+        match self.take_found(alloc, rt, road, query, options, workers) {
             Ok(found) => self.write_found(alloc, road, query, &found, shown, out),
             Err(_) => Err(AnswerFault::OutOfMemory {
                 written: self.progress.written,
             }),
+        }
+    }
+
+    /// What workers find of a problem, or what was found before its turn. An error comes only if memory was refused.
+    fn take_found<H: Threads + Sync>(
+        &mut self,
+        alloc: Global,
+        rt: &H,
+        road: &Road,
+        query: &Query,
+        options: &RunOptions,
+        workers: u32,
+    ) -> Result<Found, AllocError>
+        requires posed { IsPosed road.now query.now }
+        requires can { CanSetUp options.now workers }
+        requires counted { options.now.stats ≡ true → workers ≡ counted_workers options.now }
+        requires found { IfSome self.old.found (AddsFound options.now road.now query.now) }
+        ensures found { IfOk result (AddsFound options.now road.now query.now) }
+        ensures totals { self.new.totals ≡ self.old.totals }
+        ensures progress { self.new.progress ≡ self.old.progress }
+    {
+        match self.found.take() {
+            Some(found) => Ok(found),
+            None => find(alloc, rt, road, query, options, workers),
         }
     }
 }
@@ -116,10 +149,12 @@ fn report_each<'a, H: Threads + Sync, W: ByteOut, V: Watch>(
 {
     let Watched { shown, aids, watch } = watched;
     let mut reports = Reports::begin(aids);
+    let mut ahead = Ahead::over(alloc, counted_at_once(rt, options));
     // Proof hint: the count fits in u64.
     let _ = out.interruptions();
     let mut done = 0;
     for query in queries {
+        reports.found = ahead.take(alloc, rt, road, queries, options, done);
         reports.report(alloc, rt, road, query, options, shown, out)?;
         done += 1;
         watch.did(done, queries.len());
@@ -152,6 +187,7 @@ fn report_problems<'a, H: Threads + Sync, W: ByteOut, V: Watch>(
         Ok(progress) => Ok(Reports {
             totals: no_totals(),
             progress,
+            found: None,
         }),
         Err(fault) => Err(fault),
     }

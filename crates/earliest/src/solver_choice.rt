@@ -9,7 +9,7 @@ ghost use Rattle.ea_options.specs.Limits.{AreOptions, counted_workers};
 ghost use Rattle.earliest.specs.Counted.{AreOfOne, CanRun, CanRunCopies, IsTotal, totals_by};
 ghost use Rattle.ea_rank_command.specs.Generators.{generators_from};
 ghost use Rattle.earliest.specs.Running.{IsFoundAndCounted, IsFoundByWorkers};
-ghost use Rattle.earliest.specs.Choices.{AreSettingsFor, CanChoose, CanLimit, CanSetUp, IsChosen, asks_for_workers, at_once_on, goes_ahead, workers_asked, workers_by, workers_for, workers_on};
+ghost use Rattle.earliest.specs.Choices.{AreSettingsFor, CanChoose, CanLimit, CanSetUp, IsChosen, asks_for_workers, at_once_on, counted_at_once, goes_ahead, is_alone, workers_asked, workers_by, workers_for, workers_on};
 ghost use Rattle.earliest.specs.Workers.{AreAtHome, settings_with};
 
 use crate::totals::work_of;
@@ -97,8 +97,7 @@ fn at_once(processors: Option<usize>, options: &RunOptions) -> usize
     }
 }
 
-/// Whether statistics or several workers are asked for. Then problems go one after the other, without preparation or
-/// layout.
+/// Whether statistics or several workers are asked for. Then there is no preparation, and no layout.
 pub(crate) fn asks_for_workers(options: &RunOptions) -> bool
     ensures { result ≡ asks_for_workers options.now }
 {
@@ -110,6 +109,26 @@ pub(crate) fn goes_ahead(options: &RunOptions, threads: usize, problems: usize) 
     ensures { result ≡ goes_ahead options.now threads problems }
 {
     !asks_for_workers(options) && threads > 1 && problems > 1
+}
+
+/// Whether a problem is searched by the search of one thread: by one worker, whose turns aren't counted.
+pub(crate) fn is_alone(options: &RunOptions, workers: u32) -> bool
+    ensures { result ≡ is_alone options.now workers }
+{
+    workers == 1 && !options.stats
+}
+
+/// The number of problems that are searched at once, each by a worker whose turns are counted.
+pub(crate) fn counted_at_once<H: Threads>(rt: &H, options: &RunOptions) -> usize
+    requires { AreOptions options.now }
+    ensures { (processors : Option ℕ)
+        × IsChosen MOST_AT_ONCE (counted_at_once processors options.now) result }
+{
+    if options.stats && options.counted_workers() == 1 {
+        threads_at_once(rt, options)
+    } else {
+        1
+    }
 }
 
 /// One worker for each processor, if that many are faster on this number of nodes than one thread; else one.

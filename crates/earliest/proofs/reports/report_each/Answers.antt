@@ -1,4 +1,7 @@
-use Rattle.std.proofs.Common.{◌≡◌, [], length, refl, sym, subst, ap, arith}
+use Rattle.std.proofs.Common.{◌≡◌, ℕ, [], length, refl, sym, subst, ap, arith}
+use Rattle.std.specs.Prelude.{IfSome}
+use Rattle.std.proofs.lemmas.Option.{IfSome_then, slice_get_read}
+use Rattle.earliest.specs.Ahead.{IsFoundAt}
 use Rattle.std.proofs.lemmas.Result.{err_from_is_err_and}
 use Rattle.ea_load.specs.Posed.{IsPosed, times_on}
 use Rattle.earliest.specs.Counted.{AreTotals}
@@ -35,6 +38,7 @@ loop-query-preserved g c =
       small = c.in_ok-report.ensures.adds.more.small i inv.small;
       balanced = c.in_ok-report.ensures.adds.more.balanced;
       aids = c.report.ensures.aided.aids;
+      filled = c.take.ensures.filled;
       search = c.report.ensures.aided.search;
     }
 
@@ -53,6 +57,7 @@ loop-query-init g c =
       small = begun.totals.small;
       balanced = begun.totals.balanced;
       aids = rw begun.progress.aids c.requires.run.aids;
+      filled = c.over-ahead.ensures.filled c.args.road.now c.args.queries.now c.args.options.now;
       search = rw begun.progress.search tt;
     }
 
@@ -72,6 +77,10 @@ returns g c =
 pub report-requires-clause-run : goal.report-requires-clause-run
 report-requires-clause-run g c κs lent =
     let road = c.args.road.now in
+    let all = c.args.queries.now in
+    let options = c.args.options.now in
+    let i : ℕ = c.loop-query.query-index in
+    let found = subst (λ (n : ℕ). IfSome c.take.result (IsFoundAt road all options n)) c.loop-query.invariant.done c.take.ensures.found in
     let inv = c.loop-query.invariant in
     let reportable = c.requires.run.reportable in
     let posed = subst (IsPosed road) (sym c.query-item.is) (reportable.problems c.loop-query.query-index c.query-item.result c.loop-query-test.true) in
@@ -87,4 +96,5 @@ report-requires-clause-run g c κs lent =
         };
       };
       aided = record { search = inv.search; aids = inv.aids };
+      found = IfSome_then c.take.result found (λ result at. at.of c.query-item.result (slice_get_read all (length all) i c.query-item.result refl c.loop-query-test.true c.query-item.is));
     }

@@ -1,4 +1,5 @@
 use Rattle.std.proofs.Common.{◌≡◌, ◌≤◌, ◌<◌, ◌*◌, true, ◌^◌, take, IfSome}
+use Rattle.earliest.specs.Ahead.{AreFilled}
 use Rattle.earliest.specs.Counted.{AreBalanced, AreSmall, AreTotals}
 use Rattle.ea_load.specs.Posed.{times_on}
 use Rattle.ea_batch.specs.Sent.{AreSent}
@@ -17,5 +18,6 @@ invariant-loop-query g l = record {
   small : AreSmall l.query-index l.reports.totals;
   balanced : AreBalanced l.reports.totals;
   aids : AreAidsOn l.road l.reports.progress.aids;
+  filled : AreFilled l.road l.queries l.options l.ahead;
   search : IfSome l.reports.progress.search (Serves l.road.network l.shown.style.walks);
 }
