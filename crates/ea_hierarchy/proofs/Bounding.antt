@@ -53,7 +53,7 @@ shows_high : (aim : Aim) (rank : ℕ) (cell : Cell) → aim.top < rank → shows
 unfolding shows
 shows_high aim rank cell high = grind (arith, nat_tests, high)
 
--- above the highest rank that is reached within, all potentials are where the look ends
+-- above the highest rank that is reached within, all potentials are the end of the look
 least_far : (of : ℕ → ℕ) (far first count : ℕ) → ((k : ℕ) → k < count → far ≤ of (first + k)) → least_over of far first count ≡ far
 least_far of far first zero all = refl
 least_far of far first (suc count) all =

@@ -62,7 +62,7 @@ pub far_sum : (down far : ℕ) → far ≤ NONE → far ≤ plus down far
 unfolding plus
 far_sum down far few = grind (arith, nat_tests, few)
 
--- a rank that is beyond where the look ends reaches no head within
+-- a rank that is beyond the end of the look reaches no head within
 pub relaxes_none : (firsts heads downs : List ℕ) (aim : Aim) (list : List Cell) (rank to highest : ℕ) → aim.far ≤ NONE → AreWithin aim list → aim.far ≤ reach_of aim list rank → RelaxesReach firsts heads downs aim list list rank to highest
 relaxes_none firsts heads downs aim list rank to highest few within beyond =
     let is : reach_of aim list rank ≡ aim.far = omega (arith, beyond, within rank) in
@@ -107,7 +107,7 @@ links_more aim list middle after links reach count highest higher link inside at
 plus_more : (number more reach : ℕ) → number ≤ more → plus number reach ≤ plus more reach
 plus_more number more reach to = plus_grows number reach more reach to (omega arith)
 
--- the links from one on, over which all heads are beyond where the look ends
+-- the links from one on, over which all heads are beyond the end of the look
 pub links_end : (aim : Aim) (list middle : List Cell) (links : List Link) (reach count highest : ℕ) (link : Link) → AreAscending links → AreWithin aim list → count < length links → slice_index_or links count link ≡ link → aim.far ≤ plus link.number reach
     → RelaxesLinks aim list middle links reach count highest → RelaxesLinks aim list middle links reach (length links) highest
 links_end aim list middle links reach count highest link ascending within inside at beyond relaxes = record {

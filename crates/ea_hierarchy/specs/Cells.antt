@@ -13,11 +13,11 @@ use Rattle.ea_hierarchy.specs.declared.numbers.TheConstants.{NONE}
 abbrev pub cell_at : List Cell → ℕ → Cell
 cell_at list rank = slice_index_or list rank (record { stamp = 0; reach = NONE; bound = NONE })
 
--- What is reached at a rank; if its cell is stale, nothing nearer than where the look ends.
+-- What is reached at a rank; if its cell is stale, nothing nearer than the end of the look.
 abbrev pub reach_of : Aim → List Cell → ℕ → ℕ
 reach_of aim list rank = if nat_le aim.stamp (cell_at list rank).stamp then (cell_at list rank).reach else aim.far
 
--- The bound in the cell of a rank. None above the highest rank that is reached is nearer than where the look ends.
+-- The bound in the cell of a rank. None above the highest rank that is reached is nearer than the end of the look.
 abbrev pub bound_at : Aim → List Cell → ℕ → ℕ
 bound_at aim list rank = if nat_lt aim.top rank then aim.far else (cell_at list rank).bound
 
@@ -40,7 +40,7 @@ pub record LowersReach (aim : Aim) (list after : List Cell) (rank reach : ℕ) :
   pub here : (reach_of aim after rank ≤ reach_of aim list rank) × (reach_of aim after rank ≤ reach)
   pub others : (other : ℕ) → (other ≡ rank → ⊥) → reach_of aim after other ≡ reach_of aim list other
 
--- No rank is reached beyond where the look ends.
+-- No rank is reached beyond the end of the look.
 abbrev pub AreWithin : Aim → List Cell → Type 0
 AreWithin aim list = (rank : ℕ) → reach_of aim list rank ≤ aim.far
 

@@ -25,7 +25,7 @@ const MOST_STAMP: u32 = 4_294_967_280;
 #[derive(Clone, Copy)]
 pub(crate) struct Aim {
     pub(crate) stamp: u32,
-    /// Where the look ends: all that is farther from the target counts as this far.
+    /// The end of the look: all that is farther from the target counts as this far.
     pub(crate) far: u32,
     /// The highest rank that is reached within.
     pub(crate) top: u32,
@@ -111,7 +111,7 @@ impl Cells {
         };
     }
 
-    /// The same, unless the number is beyond where the look ends. Returns the highest of the ranks that were reached so far.
+    /// The same, unless the number is beyond the end of the look. Returns the highest of the ranks that were reached so far.
     fn lower_within(&mut self, rank: u32, reach: u32, highest: u32) -> u32
         requires rank { rank < length self.old.list.items }
         requires within { AreWithin self.old.aim self.old.list.items }

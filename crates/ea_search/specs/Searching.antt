@@ -77,7 +77,7 @@ pub record CanStartAnew (roads : Roads) (classes : ℕ) (query : Asking) (table 
   pub room : nodes ≡ roads.nodes
   pub none : table ≡ replicate roads.nodes NONE
 
--- The search of a problem can go on from labels and waiting nodes: there is room for each node, and only the
+-- The search of a problem can continue from labels and waiting nodes: there is room for each node, and only the
 -- waiting ones are left to scan.
 pub record CanSearchOn
     (roads : Roads)
@@ -93,7 +93,7 @@ pub record CanSearchOn
   pub room : nodes ≡ roads.nodes
   pub underway : AwaitsScans roads answers query table met waits
 
--- What a search that goes on keeps: labels fall to arrivals by arcs that are left no later than the target's
+-- What a search that continues keeps: labels fall to arrivals by arcs that are left no later than the target's
 -- label at first, they are had from arcs, and nodes that have one are listed.
 pub record SearchesOn
     (roads : Roads)

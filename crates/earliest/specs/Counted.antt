@@ -37,7 +37,7 @@ pub record CanRun {T : Type 0} (IsCallable : T → Type 0) (shows : T → Turn �
   pub callable : All IsCallable tracers
   pub stays : All (KeepsOn shows settings.workers) tracers
 
--- The same where each has a copy of one tracer.
+-- The same with a copy of one tracer for each.
 pub record CanRunCopies {T : Type 0} (shows : T → Turn → Flow → T → Type 0) (settings : Settings) (rngs : ℕ) (tracer : T) : Type 0 where
   pub settings_are : AreSettings settings
   pub workers : rngs ≡ settings.workers

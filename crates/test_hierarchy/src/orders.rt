@@ -74,7 +74,7 @@ fn compare_to(
     Ok(())
 }
 
-/// Sums, those that are farther as where a look ends; with the greatest number all as they are.
+/// Sums, those that are farther as this far; with the greatest number all as they are.
 fn no_farther(alloc: Global, sums: &[u64], far: u32) -> Result<Vec<u64>, AllocError> {
     let mut within = Vec::with_capacity(alloc, sums.len())?;
     for sum in sums {
