@@ -100,7 +100,7 @@ fn limits_of(network: &Network) -> Limits {
 const LEAST_NEAR: u64 = 512;
 
 /// How many upward arcs on a way up there are for each of them.
-const ARCS_A_NODE: u64 = 320;
+const ARCS_A_NODE: u64 = 256;
 
 /// How many nodes a search may scan in about the time of a bound to a near target.
 fn near_by(upward: &Upward) -> u32 {
