@@ -6,7 +6,7 @@ ghost use Rattle.ea_goal.specs.Potentials.{IsPotentialOver, potential_of};
 use ea_hierarchy::{Bounds, Prepared};
 
 /// How often bounds that end somewhere are tried.
-const LOOKS: u32 = 3;
+const LOOKS: u32 = 2;
 
 /// How many times farther each of them ends than the one before.
 const FARTHER: u32 = 4;
