@@ -180,7 +180,9 @@ def made_once(program, folder):
     for at_once in (2, 4, 16):
         words = f"run middle.gr many-ahead.ss --at-once {at_once}"
         yield grows(f"resources: {words}, all threads beside one", one, seconds(program, words, folder), 1.7)
-        for _ in range(3):
+        if at_once > 4:
+            continue  # The share of one of sixteen is too short for the system's clock.
+        for _ in range(5):
             # Those that read the network have nothing to share here.
             shares = thread_seconds(program, words, folder)[:at_once]
             are_even = len(shares) == at_once and shares[-1] * 3 * at_once >= sum(shares)
