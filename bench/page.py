@@ -62,7 +62,7 @@ PREPARED = """## Pairs over a prepared road
 
 300 pairs each, departing at 0 on plain weights: by Dijkstra rank, the target being the 2^r-th node that a search settles, and far ones at
 random. Ours is timed by a proved program (`bench/prepared/program`), on the road prepared and as it is; beside it is the same method in plain
-C++ (`bench/prepared/hand.cpp`), which numbers its network by its order. Microseconds a pair, the least, middle and greatest of six rounds;
+C++ (`bench/prepared/hand.cpp`), which numbers its network by its order. Microseconds a pair, the least, middle and greatest of three rounds or more;
 the preparation in milliseconds.
 """
 
