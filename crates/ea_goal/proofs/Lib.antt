@@ -7,4 +7,4 @@ pub mod Seeding
 pub mod Reaching
 pub mod Agreeing
 pub mod Walks
-pub mod Reopening
+pub mod Unled

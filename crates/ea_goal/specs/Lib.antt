@@ -5,4 +5,3 @@ pub mod Visits
 pub mod Seeds
 pub mod Guides
 pub mod Potentials
-pub mod Reopened

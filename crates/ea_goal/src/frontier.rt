@@ -76,13 +76,6 @@ impl Frontier {
         self.passed = 0;
     }
 
-    /// Whether no node is open.
-    pub(crate) fn is_empty(&self) -> bool
-        ensures { result ≡ true → length self.now ≡ 0 }
-    {
-        self.heap.is_empty() && self.stack.is_empty()
-    }
-
     /// Opens a node with its label and its bound. An error comes only if memory was refused.
     pub(crate) fn open(&mut self, label: u64, bound: u32, node: u32) -> Result<(), AllocError>
         requires { label ≤ HORIZON }

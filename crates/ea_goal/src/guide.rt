@@ -17,14 +17,13 @@ use ea_travel_times::TravelTimes;
 use std::alloc::{AllocError, Global};
 use std::marker::Model;
 
-/// The arrays of led searches beside labels: bounds, and heaps of open nodes. They are reused from search to
+/// The arrays of led searches beside labels: bounds, and a heap of open nodes. They are reused from search to
 /// search; several threads share one preparation. In contracts it is the number of nodes.
 #[derive(Drop)]
 pub struct Guide {
     nodes: u32,
     bounds: Bounds,
     frontier: Frontier,
-    spare: Frontier,
     asked: u64,
 }
 
@@ -50,7 +49,6 @@ impl Guide {
             nodes: prepared.nodes(),
             bounds,
             frontier: Frontier::new(alloc),
-            spare: Frontier::new(alloc),
             asked: 0,
         })
     }
@@ -71,9 +69,9 @@ pub struct Led {
     pub is_found: bool,
 }
 
-/// Searches from the sources of a query for its target, on reset labels. A node is left open if its label and
-/// its bound together are above the target's label. Takes time in proportion to the nodes that it reaches and
-/// the upward arcs above them and the target.
+/// Searches from the sources of a query for its target, on reset labels. A node is left open if its label and its bound together are above
+/// the target's label. Takes time in proportion to the nodes that it reaches and the upward arcs above them and the target; a first look for
+/// bounds ends at a small multiple of the distance that was searched without them, up to the time `until`.
 pub fn lead<T: TravelTimes>(
     network: &Network,
     times: &T,
@@ -82,6 +80,7 @@ pub fn lead<T: TravelTimes>(
     target: u32,
     guide: Guide,
     table: Reached,
+    until: u64,
 ) -> Led
     requires problem { IsProblem network.now (T.classes times.now) query.now }
     requires target { query.now.target ≡ Some target }
@@ -100,24 +99,16 @@ pub fn lead<T: TravelTimes>(
         nodes,
         bounds,
         mut frontier,
-        mut spare,
         ..
     } = guide;
     frontier.clear();
-    let potential = Potential::zero(bounds);
+    let potential = Potential { bounds, asked: 0 };
     let mut underway = Underway {
         table,
         frontier,
         potential,
     };
-    let ended = underway.seek(
-        network,
-        times,
-        prepared,
-        query.sources(),
-        target,
-        &mut spare,
-    );
+    let ended = underway.seek(network, times, prepared, query.sources(), target, until);
     let is_found = ended.is_ok();
     let Underway {
         table,
@@ -129,7 +120,6 @@ pub fn lead<T: TravelTimes>(
             nodes,
             bounds,
             frontier,
-            spare,
             asked,
         },
         table,

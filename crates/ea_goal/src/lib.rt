@@ -3,8 +3,8 @@
 
 mod frontier;
 mod guide;
-mod phases;
 mod potential;
 mod search;
+mod seek;
 
 pub use guide::{Guide, Led, lead};

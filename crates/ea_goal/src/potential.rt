@@ -11,38 +11,24 @@ const LOOKS: u32 = 2;
 /// How many times farther each of them ends than the one before.
 const FARTHER: u32 = 4;
 
-/// Bounds of the travel time to the target of a search. Until they are begun, the bound of each node is 0.
+/// Bounds of the travel time to the target of a search.
 #[derive(Drop)]
 pub(crate) struct Potential {
     pub(crate) bounds: Bounds,
-    pub(crate) is_begun: bool,
     /// How many bounds were asked for since they were begun.
     pub(crate) asked: u64,
 }
 
 impl Potential {
-    /// A bound of 0 for each node.
-    pub(crate) fn zero(bounds: Bounds) -> Potential
-        ensures bounds { result.bounds ≡ bounds }
-        ensures begun { result.is_begun ≡ false }
-    {
-        Potential {
-            bounds,
-            is_begun: false,
-            asked: 0,
-        }
-    }
-
     /// Begins bounds to a target, from a source that is farther from it than the distance that was searched. Bounds that end at a small
     /// multiple of that distance come first, since they look at few upward arcs; they serve if the source's bound is nearer.
     pub(crate) fn begin(&mut self, prepared: &Prepared, source: u32, target: u32, searched: u64)
         requires room { IsRoomFor prepared.now self.old.bounds }
         requires source { (0 < source) × (source ≤ length prepared.now.ranks) }
         requires target { (0 < target) × (target ≤ length prepared.now.ranks) }
-        ensures bounds { AreBoundsTo prepared.now target self.new.bounds }
-        ensures begun { self.new.is_begun ≡ true }
+        ensures { AreBoundsTo prepared.now target self.new.bounds }
     {
-        self.is_begun = true;
+        self.asked = 0;
         let mut far = searched.min(u64::from(u32::MAX)) as u32;
         for _ in 0..LOOKS {
             far = far.saturating_mul(FARTHER);
@@ -66,9 +52,6 @@ impl Potential {
         ensures same { (other : ℕ) → potential_of prepared.now self.new other
             ≡ potential_of prepared.now self.old other }
     {
-        if !self.is_begun {
-            return Some(0);
-        }
         self.asked = self.asked.wrapping_add(1);
         self.bounds.bound(prepared, node)
     }

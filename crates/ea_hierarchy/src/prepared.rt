@@ -34,7 +34,7 @@ pub struct Prepared {
     pub(crate) trimmed_downs: Trimmed,
     /// For each node whether it is on a chain.
     chains: Vec<bool>,
-    /// How many nodes a search may scan in about a quarter of the time of a first bound.
+    /// How many nodes a search may scan in less than the time of a first bound.
     near: u32,
 }
 
@@ -97,12 +97,12 @@ fn limits_of(network: &Network) -> Limits {
 }
 
 /// The least number of nodes that are near.
-const LEAST_NEAR: u64 = 512;
+const LEAST_NEAR: u64 = 1100;
 
 /// How many upward arcs on a way up there are for each of them.
-const ARCS_A_NODE: u64 = 256;
+const ARCS_A_NODE: u64 = 64;
 
-/// How many nodes a search may scan in about the time of a bound to a near target.
+/// How many nodes a search without bounds may scan in less than the time of a first bound.
 fn near_by(upward: &Upward) -> u32 {
     let nodes = mean_arcs_above(upward) / ARCS_A_NODE;
     nodes.max(LEAST_NEAR).min(u64::from(NONE)) as u32
@@ -255,7 +255,8 @@ impl Prepared {
             .saturating_add(self.trimmed_downs.left_out)
     }
 
-    /// How many nodes a search may scan in about the time that bounds to a near target take.
+    /// How many nodes a search without bounds may scan in less than the time of a first bound. A target beyond them is searched led by
+    /// bounds, from the sources again.
     pub fn near(&self) -> u32 {
         self.near
     }

@@ -2,6 +2,7 @@ pub mod Linkings
 pub mod Offerings
 pub mod Linked
 pub mod Mendings
+pub mod Nearby
 pub mod Replayings
 pub mod Sowings
 pub mod Numbered

@@ -73,6 +73,20 @@ pub record HasEnded
   pub listed : AreLabelsListed labels is_listed
   pub emptied : AreEmptied lists
 
+-- A search near the sources ended, or was given up: each node that has a label is listed, none waits, and lists have no entry.
+pub record EndsNear
+    (roads : Roads)
+    (todo : Worklist)
+    (labels : List ℕ)
+    (is_listed : ℕ → Type 0)
+    (lists : List (List (ℕ × ℕ)))
+    (todo' : Worklist)
+    : Type 0 where
+  pub places : length labels ≡ roads.nodes
+  pub listed : AreLabelsListed labels is_listed
+  pub emptied : AreEmptied lists
+  pub nobody : todo' ≡ record { nodes = roads.nodes; waiting = []; walks = todo.walks }
+
 -- A query, and arrays for the nodes of its network.
 pub record CanFind (roads : Roads) (classes : ℕ) (query : Asking) (search : Searched) : Type 0 where
   pub problem : IsProblem roads classes query

@@ -57,7 +57,7 @@ fn room_of(nodes: u32, walks: bool) -> usize
 
 /// The width of windows in a search without a log. In wider windows more nodes are scanned twice, in narrower
 /// ones lists are spread more often.
-fn width_without_walks(network: &Network) -> u64 {
+pub(crate) fn width_without_walks(network: &Network) -> u64 {
     network.mean_weight().saturating_mul(2)
 }
 

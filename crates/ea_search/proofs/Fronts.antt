@@ -217,8 +217,8 @@ waiting_moved label node first middle last time taken same is puts v waits = eli
 pub taken_waiting : (found : Option ℕ) (lists : List Entries) (old new : Worklist) → MatchOption found ((old.waiting ≡ []) × (new ≡ old)) (λ node. old.waiting ≡ node ∷ new.waiting)
     → (new.nodes ≡ old.nodes) × (new.walks ≡ old.walks)
     → IfSome found (λ node. (0 < node) × (node ≤ old.nodes))
-    → MatchOption found (◌≡◌ {A = Frontage} (record { lists = lists; todo = new }) (record { lists = lists; todo = old })) (λ node. TakesWaiting node (record { lists = lists; todo = old }) (record { lists = lists; todo = new }))
-taken_waiting None lists old new h room is_node = ap (λ (t : Worklist). (λ (f : Frontage). f) (record { lists = lists; todo = t })) h.1
+    → MatchOption found ((old.waiting ≡ []) × ◌≡◌ {A = Frontage} (record { lists = lists; todo = new }) (record { lists = lists; todo = old })) (λ node. TakesWaiting node (record { lists = lists; todo = old }) (record { lists = lists; todo = new }))
+taken_waiting None lists old new h room is_node = (h.0, ap (λ (t : Worklist). (λ (f : Frontage). f) (record { lists = lists; todo = t })) h.1)
 taken_waiting (Some n) lists old new h room is_node = record { is_node = is_node; waited = h; lists = refl; nodes = room.0; walks = room.1 }
 
 pub all_empty : (lists : List Entries) → length lists ≡ 66 → ((place : ℕ) → place < 66 → get_or lists place [] ≡ []) → HaveNone lists

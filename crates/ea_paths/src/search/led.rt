@@ -1,18 +1,21 @@
-//! Searches of pairs that are led by bounds over a prepared road.
-ghost use Rattle.std.specs.Prelude.{◌≡◌, true, IfSome, length, replicate};
+//! Searches of pairs over a prepared road: near the sources without bounds, then anew, led by bounds.
+ghost use Rattle.std.specs.Prelude.{◌≡◌, true, IfSome, None, length, map, replicate};
 ghost use Rattle.ea_road.specs.declared.TheConstants.{NONE};
 ghost use Rattle.ea_road.specs.Labels.{label_of};
 ghost use Rattle.ea_hierarchy.specs.Preparations.{IsPreparedFor};
 ghost use Rattle.ea_goal.specs.Led.{IsLedTo};
-ghost use Rattle.ea_paths.specs.Searches.{AreLabelled, AsksPair, CanFind, CanLead, GetLabels, HasFound, HasFoundWalks, IsUnlinked};
+ghost use Rattle.ea_road.specs.Queries.{IsProblem};
+ghost use Rattle.ea_search.specs.Listings.{Searched};
+ghost use Rattle.ea_search.specs.Underway.{IsFinished};
+ghost use Rattle.ea_paths.specs.Searches.{AreLabelled, AreReset, AsksPair, CanBegin, CanFind, CanLead, EndsNear, GetLabels, HasFound, HasFoundWalks, IsUnlinked};
 
 use crate::answer::Answer;
 use crate::link_search::link_all;
-use crate::search::{Arrays, Search};
+use crate::search::{Arrays, Search, width_without_walks};
 use ea_goal::{Guide, Led, lead};
 use ea_hierarchy::Prepared;
 use ea_road::{Network, Query};
-use ea_search::Reached;
+use ea_search::{Frontier, Open, Reached, Table, finish_noted, search_near};
 use ea_travel_times::TravelTimes;
 use std::alloc::Global;
 
@@ -102,6 +105,7 @@ fn lead_arrays<T: TravelTimes>(
     prepared: &Prepared,
     query: &Query,
     target: u32,
+    until: u64,
 ) -> (Arrays, bool)
     requires can { CanLead network.now (T.answers times.now) (T.classes times.now)
         prepared.now query.now target }
@@ -128,7 +132,9 @@ fn lead_arrays<T: TravelTimes>(
         guide,
         table: Reached { labels, listed },
         is_found,
-    } = lead(network, times, prepared, query, target, guide, reached);
+    } = lead(
+        network, times, prepared, query, target, guide, reached, until,
+    );
     let arrays = Arrays {
         table: labels,
         todo,
@@ -139,6 +145,104 @@ fn lead_arrays<T: TravelTimes>(
         guide: Some(guide),
     };
     (arrays, is_found)
+}
+
+/// Searches from the sources on a reset table and empty lists until each label is least, unless about as many nodes were scanned as `most`
+/// says: then returns up to which time.
+fn find_near<T: TravelTimes, L: Table>(
+    network: &Network,
+    times: &T,
+    query: &Query,
+    lists: Vec<Vec<(u64, u32)>>,
+    todo: Open,
+    table: &mut L,
+    most: u32,
+) -> (Vec<Vec<(u64, u32)>>, Open, Option<u64>)
+    requires problem { IsProblem network.now (T.classes times.now) query.now }
+    requires begins { CanBegin network.now.nodes (L.labels table.old) (L.had table.old)
+        (map (λ l. l.items) lists.items) todo }
+    ensures ends { EndsNear network.now todo (L.labels table.new) (L.lists table.new)
+        (map (λ l. l.items) result.0.items) result.1 }
+    ensures finished { result.2 ≡ None → IsFinished network.now (T.answers times.now) query.now
+        (L.labels table.new) result.1 }
+{
+    let mut frontier = Frontier::over(lists, todo, width_without_walks(network));
+    let most = u64::from(most);
+    if search_near(network, times, query, table, &mut frontier, most) {
+        let (lists, todo) = frontier.into_parts();
+        let todo = finish_noted(network, times, query, table, todo);
+        return (lists, todo, None);
+    }
+    let until = frontier.low();
+    frontier.clear();
+    let (lists, todo) = frontier.into_parts();
+    (lists, todo, Some(until))
+}
+
+/// The arrays after a search near the sources; if it didn't end, returns up to which time it went.
+fn search_arrays<T: TravelTimes>(
+    arrays: Arrays,
+    network: &Network,
+    times: &T,
+    query: &Query,
+    target: u32,
+    most: u32,
+) -> (Arrays, Option<u64>)
+    requires pair { AsksPair network.now (T.classes times.now) query.now target }
+    requires reset { AreReset network.now.nodes arrays.todo.walks arrays }
+    ensures labelled { AreLabelled network.now.nodes arrays.todo.walks result.0 }
+    ensures led { result.1 ≡ None → IsLedTo network.now (T.answers times.now)
+        query.now.sources target (label_of result.0.table.items) }
+{
+    network.keeps_limits();
+    let Arrays {
+        table,
+        todo,
+        lists,
+        listed,
+        notes,
+        ties,
+        guide,
+    } = arrays;
+    let mut reached = Reached {
+        labels: table,
+        listed,
+    };
+    let (lists, todo, until) = find_near(network, times, query, lists, todo, &mut reached, most);
+    let Reached { labels, listed } = reached;
+    let arrays = Arrays {
+        table: labels,
+        todo,
+        lists,
+        listed,
+        notes,
+        ties,
+        guide,
+    };
+    (arrays, until)
+}
+
+/// The search with labels that were led to the target as an answer, with its walk if there is room for walks.
+fn answered<T: TravelTimes>(
+    arrays: Arrays,
+    walks: bool,
+    network: &Network,
+    times: &T,
+    query: &Query,
+    target: u32,
+) -> Search
+    requires pair { AsksPair network.now (T.classes times.now) query.now target }
+    requires labelled { AreLabelled network.now.nodes walks arrays }
+    requires led { IsLedTo network.now (T.answers times.now) query.now.sources target
+        (label_of arrays.table.items) }
+    ensures { (before : Searched) → before.nodes ≡ network.now.nodes → before.walks ≡ walks
+        → HasFound network.now (T.answers times.now) query.now before result }
+{
+    if walks {
+        linked(arrays, network, times, query, target)
+    } else {
+        unlinked(arrays, network.nodes(), Some(target), walks)
+    }
 }
 
 impl Search {
@@ -154,9 +258,9 @@ impl Search {
         }
     }
 
-    /// Answers a query, with its canonical walks if there is room for walks. The search of a pair is led by
-    /// bounds over a prepared road; one for all nodes isn't. Else like `find_arrivals`, but it takes memory for
-    /// the bounds of the first led search, and for open nodes; if that is refused, it does without bounds.
+    /// Answers a query, with its canonical walks if there is room for walks. The search of a pair looks at some nodes near the sources, and
+    /// if that isn't enough is led by bounds over a prepared road; one for all nodes is as without it. Else like `find_arrivals`, but it takes
+    /// memory for the bounds of the first led search, and for open nodes; if that is refused, it does without bounds.
     pub fn find_led<T: TravelTimes>(
         self,
         alloc: Global,
@@ -175,7 +279,7 @@ impl Search {
         }
     }
 
-    /// Answers the query of a pair by a led search.
+    /// Answers the query of a pair, near the sources without bounds.
     fn find_target<T: TravelTimes>(
         self,
         alloc: Global,
@@ -191,21 +295,50 @@ impl Search {
         ensures { HasFound network.now (T.answers times.now) query.now self result }
     {
         let walks = self.walks;
+        let near = prepared.near();
+        let (arrays, until) = search_arrays(
+            self.into_arrays(),
+            network,
+            times,
+            query,
+            target,
+            near,
+        );
+        let Some(until) = until else {
+            return answered(arrays, walks, network, times, query, target);
+        };
+        let search = unlinked(arrays, network.nodes(), None, walks);
+        search.find_by_bounds(alloc, network, times, prepared, query, target, until)
+    }
+
+    /// Answers the query of a pair by a led search. Near the sources it was searched up to a time.
+    fn find_by_bounds<T: TravelTimes>(
+        self,
+        alloc: Global,
+        network: &Network,
+        times: &T,
+        prepared: &Prepared,
+        query: &Query,
+        target: u32,
+        until: u64,
+    ) -> Search
+        requires can { CanLead network.now (T.answers times.now) (T.classes times.now)
+            prepared.now query.now target }
+        requires nodes { self.nodes ≡ network.now.nodes }
+        ensures { HasFound network.now (T.answers times.now) query.now self result }
+    {
+        let walks = self.walks;
         let nodes = network.nodes();
         let mut arrays = self.into_arrays();
         let Some(guide) = guide_over(alloc, prepared, arrays.guide.take()) else {
             return unlinked(arrays, nodes, None, walks).find(network, times, query);
         };
         let (arrays, is_found) = lead_arrays(
-            arrays, guide, network, times, prepared, query, target,
+            arrays, guide, network, times, prepared, query, target, until,
         );
         if !is_found {
             return unlinked(arrays, nodes, None, walks).find(network, times, query);
         }
-        if walks {
-            linked(arrays, network, times, query, target)
-        } else {
-            unlinked(arrays, nodes, Some(target), walks)
-        }
+        answered(arrays, walks, network, times, query, target)
     }
 }

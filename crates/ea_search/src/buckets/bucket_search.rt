@@ -1,5 +1,5 @@
 //! A search from the sources, nearly in the order of times.
-ghost use Rattle.std.specs.Prelude.{◌≡◌, ℕ, ◌≤◌, [], Contains, IfSome, IsTrue};
+ghost use Rattle.std.specs.Prelude.{◌≡◌, ℕ, ◌≤◌, [], Contains, IfSome, IsTrue, None, true};
 ghost use Rattle.ea_road.specs.Labels.{limit};
 ghost use Rattle.ea_road.specs.Roads.{IsNode};
 ghost use Rattle.ea_search.specs.Candidates.{Empties, TakesUp};
@@ -94,29 +94,56 @@ fn take_hand_up<T: TravelTimes, L: Table>(
     None
 }
 
-/// Scans until the frontier is empty. The candidates of one hand are gathered first and then offered.
+/// Whether more entries may be taken; any number, if there is no bound of it.
+fn may_take(left: Option<u64>) -> bool
+    ensures { left ≡ None → result ≡ true }
+{
+    match left {
+        Some(count) => 0 < count,
+        None => true,
+    }
+}
+
+/// What is left of a bound when an entry and the hand behind it were taken.
+fn without_hand(left: Option<u64>, hand: usize) -> Option<u64>
+    ensures { left ≡ None → result ≡ None }
+{
+    let count = left?;
+    Some(count.saturating_sub(1).saturating_sub(hand as u64))
+}
+
+/// Scans until the frontier is empty, or about as many entries were taken as `most` says. The candidates of one hand are gathered first and
+/// then offered. Returns whether the frontier is empty.
 fn exhaust<T: TravelTimes, L: Table>(
     network: &Network,
     times: &T,
     query: &Query,
     table: &mut L,
     frontier: &mut Frontier,
-)
+    most: Option<u64>,
+) -> bool
     requires { CanSearchOn network.now (T.answers times.now) (T.classes times.now) query.now
         (L.labels table.old) (L.met table.old)
         (WaitsAt frontier.old (bound_of (L.labels table.old))) frontier.old.todo.nodes }
     ensures underway { AwaitsScans network.now (T.answers times.now) query.now
-        (L.labels table.new) (L.met table.new) (Contains frontier.new.todo.waiting) }
+        (L.labels table.new) (L.met table.new)
+        (WaitsAt frontier.new (bound_of (L.labels table.new))) }
     ensures onward { SearchesOn network.now (T.answers times.now) query.now.target
         (L.labels table.old) (L.lists table.old) (L.had table.old)
         (L.labels table.new) (L.lists table.new) (L.had table.new) }
     ensures room { KeepsRoom frontier.old.todo frontier.new.todo }
-    ensures none { HaveNone frontier.new.lists }
+    ensures whole { most ≡ None → result ≡ true }
+    ensures none { result ≡ true → HaveNone frontier.new.lists }
 {
     network.keeps_limits();
     let target = query.target();
     let mut candidates = Candidates::none();
-    while let Some(entry) = frontier.take(network, table) {
+    let mut left = most;
+    'scanning: while may_take(left) {
+        let Some(entry) = frontier.take(network, table) else {
+            return true;
+        };
+        left = without_hand(left, frontier.in_hand());
         let last = latest(target, table).min(HORIZON);
         let crowded = take_hand_up(
             network,
@@ -133,6 +160,7 @@ fn exhaust<T: TravelTimes, L: Table>(
             scan(network, times, node, time, table, frontier);
         }
     }
+    false
 }
 
 /// Searches from the sources; the frontier has no entry at first. The nodes that still wait afterwards are
@@ -156,7 +184,30 @@ pub fn search<T: TravelTimes, L: Table>(
 {
     network.keeps_limits();
     begin(network, times, query, table, frontier);
-    exhaust(network, times, query, table, frontier);
+    exhaust(network, times, query, table, frontier, None);
+}
+
+/// Searches like `search`, and gives up once about as many nodes were scanned as `most` says. Returns whether it ended.
+pub fn search_near<T: TravelTimes, L: Table>(
+    network: &Network,
+    times: &T,
+    query: &Query,
+    table: &mut L,
+    frontier: &mut Frontier,
+    most: u64,
+) -> bool
+    requires can { CanStartAnew network.now (T.classes times.now) query.now
+        (L.labels table.old) frontier.old.todo.nodes }
+    ensures underway { AwaitsScans network.now (T.answers times.now) query.now
+        (L.labels table.new) (L.met table.new)
+        (WaitsAt frontier.new (bound_of (L.labels table.new))) }
+    ensures room { KeepsRoom frontier.old.todo frontier.new.todo }
+    ensures none { result ≡ true → HaveNone frontier.new.lists }
+    ensures listed { AreLabelsListed (L.labels table.new) (L.lists table.new) }
+{
+    network.keeps_limits();
+    begin(network, times, query, table, frontier);
+    exhaust(network, times, query, table, frontier, Some(most))
 }
 
 /// Continues from the labels in the table; the open nodes wait in the frontier's list. The nodes that still
@@ -180,5 +231,5 @@ pub fn search_on<T: TravelTimes, L: Table>(
 {
     network.keeps_limits();
     frontier.move_in(table);
-    exhaust(network, times, query, table, frontier);
+    exhaust(network, times, query, table, frontier, None);
 }

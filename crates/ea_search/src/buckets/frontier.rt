@@ -1,5 +1,5 @@
 //! The frontier: open nodes by their labels, nearly the least first.
-ghost use Rattle.std.specs.Prelude.{◌≡◌, ℕ, ◌+◌, ◌<◌, ◌≤◌, length, map, IfOk, MatchOption};
+ghost use Rattle.std.specs.Prelude.{◌≡◌, ℕ, ◌+◌, ◌<◌, ◌≤◌, [], length, map, IfOk, MatchOption};
 ghost use Rattle.ea_search.specs.Frontiers.{AreEntries, HaveNone, HasNone, KeepsWaiting, Puts, Takes};
 ghost use Rattle.ea_search.specs.Frontiers.{TakesWaiting, WaitsAt};
 ghost use Rattle.ea_search.specs.Searching.{KeepsRoom};
@@ -272,9 +272,30 @@ impl Frontier {
         self.pop(HAND)
     }
 
+    /// The number of entries in the hand.
+    pub(crate) fn in_hand(&self) -> usize {
+        self.lists[HAND].len()
+    }
+
+    /// Some time in the window: up to about there nodes were taken.
+    pub fn low(&self) -> u64 {
+        self.low
+    }
+
+    /// Leaves no entry and no waiting node.
+    pub fn clear(&mut self)
+        ensures none { HaveNone self.new.lists }
+        ensures nobody { self.new.todo.waiting ≡ [] }
+        ensures room { KeepsRoom self.old.todo self.new.todo }
+    {
+        'emptying: while let Some(_) = self.pop_lowest() {}
+        'releasing: while let Some(_) = self.take_waiting() {}
+    }
+
     /// Takes the node that has waited longest in `todo`.
     fn take_waiting(&mut self) -> Option<u32>
-        ensures { MatchOption result (self.new ≡ self.old) (λ node. TakesWaiting node self.old self.new) }
+        ensures { MatchOption result ((self.old.todo.waiting ≡ []) × (self.new ≡ self.old))
+            (λ node. TakesWaiting node self.old self.new) }
     {
         self.todo.take()
     }

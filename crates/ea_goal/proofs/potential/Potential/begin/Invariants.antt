@@ -1,9 +1,5 @@
-use Rattle.std.proofs.Common.{◌≡◌, true}
 use Rattle.ea_hierarchy.specs.Bounds.{IsRoomFor}
 use Rattle.ea_goal.proofs.potential.Potential.begin.Given as goal
 
 abbrev pub invariant-loop : goal.invariant-loop
-invariant-loop l = record {
-  room : IsRoomFor l.prepared l.self.bounds;
-  begun : l.self.is_begun ≡ true;
-}
+invariant-loop l = IsRoomFor l.prepared l.self.bounds

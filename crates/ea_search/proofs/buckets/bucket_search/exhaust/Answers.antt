@@ -1,6 +1,5 @@
 use Rattle.std.proofs.Common.{◌≡◌, ◌∙◌, ℕ, Some, sym, inl, inr, arith}
 use Rattle.ea_road.proofs.ByTail.{leaving_has}
-use Rattle.ea_search.specs.Underway.{bound_of}
 use Rattle.ea_search.proofs.Boundary.{same_limit}
 use Rattle.ea_search.proofs.Entries.{AwaitsScansFrom-moved, AwaitsScansFrom-scanned}
 use Rattle.ea_search.proofs.Falls.{FallsBy-then, FallsBy-scanned}
@@ -8,12 +7,13 @@ use Rattle.ea_search.proofs.Gatherings.{AreHad-offered, AwaitsScansFrom-hand, Fa
 use Rattle.ea_search.proofs.Steps.{KeepsRoom-by, KeepsRoom-same, SearchesOn-same, SearchesOn-then}
 use Rattle.ea_search.proofs.buckets.bucket_search.exhaust.Goals as goal
 
-pub loop-entry-init : goal.loop-entry-init
-loop-entry-init g c = record {
+pub scanning-init : goal.scanning-init
+scanning-init g c = record {
   underway = c.requires.underway;
   onward = SearchesOn-same _ _ _ _ _ _;
   room = KeepsRoom-same _;
   none = c.none-candidates.ensures;
+  whole = λ all. all;
 }
 
 pub offer-requires : goal.offer-requires
@@ -21,11 +21,11 @@ offer-requires g c candidate there =
     let emptied = c.take_hand_up-crowded.ensures.emptied in
     let taken = c.in-Some.ensures in
     let had = emptied.had candidate there in
-    let is_node = had_is_node c.args.network.now _ (g.L.Table.labels c.loop-entry.table) c.min-last.result candidate c.keeps_limits.ensures had in
-    let places = c.loop-entry.invariant.underway.places in
+    let is_node = had_is_node c.args.network.now _ (g.L.Table.labels c.scanning.table) c.min-last.result candidate c.keeps_limits.ensures had in
+    let places = c.scanning.invariant.underway.places in
     record {
       can_fall = record { is_node = (is_node.from_one, omega (arith, is_node.to_last, places)); in_time = had.step.in_time };
-      places = omega (arith, places, emptied.nodes, taken.nodes, c.loop-entry.invariant.room.nodes, c.requires.room);
+      places = omega (arith, places, emptied.nodes, taken.nodes, c.scanning.invariant.room.nodes, c.requires.room);
     }
 
 pub scan-requires-clause-can : goal.scan-requires-clause-can
@@ -38,13 +38,13 @@ scan-requires-clause-can g c =
       is_node = crowded.0;
       in_time = omega (arith, read, offered.lower node, crowded.1, c.min-last.ensures);
       classed = c.requires.problem.classed;
-      places = offered.places ∙ c.loop-entry.invariant.underway.places;
+      places = offered.places ∙ c.scanning.invariant.underway.places;
     }
 
-pub loop-entry-preserved : goal.loop-entry-preserved
-loop-entry-preserved g c =
-    let table = (g.L.Table.labels c.loop-entry.table) in
-    let before = c.loop-entry.invariant.underway in
+pub scanning-preserved : goal.scanning-preserved
+scanning-preserved g c =
+    let table = (g.L.Table.labels c.scanning.table) in
+    let before = c.scanning.invariant.underway in
     let taken = c.in-Some.ensures in
     let emptied = c.take_hand_up-crowded.ensures.emptied in
     let offered = c.offer.ensures.offered in
@@ -56,17 +56,18 @@ loop-entry-preserved g c =
             | inl held ↦ absurd (c.in_default-crowded.not-Some v held)
             | inr still ↦ still
           ]);
-      onward = SearchesOn-then _ _ _ _ _ _ _ _ _ _ _ _ c.loop-entry.invariant.onward c.requires.problem.target fell (omega (arith, limited, c.min-last.ensures)) c.offer.ensures.keeps.listed (AreHad-offered c.args.network.now _ table c.min-last.result _ _ _ _ _ _ _ _ (omega (arith, c.min-last.ensures)) emptied.had offered);
-      room = KeepsRoom-by _ c.take_hand_up-crowded.new.frontier.todo _ (record { nodes = emptied.nodes ∙ taken.nodes ∙ c.loop-entry.invariant.room.nodes; walks = emptied.walks ∙ taken.walks ∙ c.loop-entry.invariant.room.walks }) c.offer.ensures.keeps.same_room;
+      onward = SearchesOn-then _ _ _ _ _ _ _ _ _ _ _ _ c.scanning.invariant.onward c.requires.problem.target fell (omega (arith, limited, c.min-last.ensures)) c.offer.ensures.keeps.listed (AreHad-offered c.args.network.now _ table c.min-last.result _ _ _ _ _ _ _ _ (omega (arith, c.min-last.ensures)) emptied.had offered);
+      room = KeepsRoom-by _ c.take_hand_up-crowded.new.frontier.todo _ (record { nodes = emptied.nodes ∙ taken.nodes ∙ c.scanning.invariant.room.nodes; walks = emptied.walks ∙ taken.walks ∙ c.scanning.invariant.room.walks }) c.offer.ensures.keeps.same_room;
       none = c.offer.ensures.none;
+      whole = λ all. c.without_hand-left.ensures (c.scanning.invariant.whole all);
     }
 
-pub loop-entry-preserved-in-Some-crowded : goal.loop-entry-preserved-in-Some-crowded
-loop-entry-preserved-in-Some-crowded g c =
-    let table = (g.L.Table.labels c.loop-entry.table) in
+pub scanning-preserved-in-Some-crowded : goal.scanning-preserved-in-Some-crowded
+scanning-preserved-in-Some-crowded g c =
+    let table = (g.L.Table.labels c.scanning.table) in
     let node = c.in-Some-crowded.node in
     let crowded = c.in-Some-crowded.ensures.crowded in
-    let before = c.loop-entry.invariant.underway in
+    let before = c.scanning.invariant.underway in
     let taken = c.in-Some.ensures in
     let emptied = c.take_hand_up-crowded.ensures.emptied in
     let offered = c.offer.ensures.offered in
@@ -82,21 +83,19 @@ loop-entry-preserved-in-Some-crowded g c =
             | inl held ↦ inl (some_of (sym c.in-Some-crowded.is ∙ held))
             | inr still ↦ inr still
           ]) read (omega (arith, read, offered.lower node, crowded.1, c.min-last.ensures)) (λ n arc is_arc tail. leaving_has c.args.network.now node n arc is_arc tail) scanned;
-      onward = SearchesOn-then _ _ _ _ _ _ _ _ _ _ _ _ c.loop-entry.invariant.onward c.requires.problem.target all_fell (omega (arith, limited, c.min-last.ensures))
+      onward = SearchesOn-then _ _ _ _ _ _ _ _ _ _ _ _ c.scanning.invariant.onward c.requires.problem.target all_fell (omega (arith, limited, c.min-last.ensures))
           (λ all. c.scan.ensures.keeps.listed (c.offer.ensures.keeps.listed all))
           (λ all. c.scan.ensures.had (omega (arith, read)) (AreHad-offered c.args.network.now _ table c.min-last.result _ _ _ _ _ _ _ _ (omega (arith, c.min-last.ensures)) emptied.had offered all));
-      room = KeepsRoom-by _ c.take_hand_up-crowded.new.frontier.todo _ (record { nodes = emptied.nodes ∙ taken.nodes ∙ c.loop-entry.invariant.room.nodes; walks = emptied.walks ∙ taken.walks ∙ c.loop-entry.invariant.room.walks }) (c.scan.ensures.keeps.same_room ∙ c.offer.ensures.keeps.same_room);
+      room = KeepsRoom-by _ c.take_hand_up-crowded.new.frontier.todo _ (record { nodes = emptied.nodes ∙ taken.nodes ∙ c.scanning.invariant.room.nodes; walks = emptied.walks ∙ taken.walks ∙ c.scanning.invariant.room.walks }) (c.scan.ensures.keeps.same_room ∙ c.offer.ensures.keeps.same_room);
       none = c.offer.ensures.none;
+      whole = λ all. c.without_hand-left.ensures (c.scanning.invariant.whole all);
     }
   where
     some_of : {a b : ℕ} → Some a ≡ Some b → a ≡ b
     some_of same = cc
 
-pub returns-clause-underway : goal.returns-clause-underway
-returns-clause-underway g c =
-    let table = (g.L.Table.labels c.loop-entry.table) in
+pub returns-in_default-clause-underway : goal.returns-in_default-clause-underway
+returns-in_default-clause-underway g c =
+    let table = (g.L.Table.labels c.scanning.table) in
     let kept = c.in_default.ensures.0 in
-    AwaitsScansFrom-moved _ _ _ _ table _ _ _ c.loop-entry.invariant.underway (λ v waits. elim (kept.rest v waits) [
-      | inl listed ↦ listed
-      | inr entered ↦ absurd (c.in_default.ensures.1 (bound_of table v, v) entered)
-    ])
+    AwaitsScansFrom-moved _ _ _ _ table _ _ _ c.scanning.invariant.underway kept.rest

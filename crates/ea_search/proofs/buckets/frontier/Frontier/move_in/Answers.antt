@@ -25,4 +25,4 @@ moving-preserved g c =
     }
 
 pub returns-in_default-clause-rest : goal.returns-in_default-clause-rest
-returns-in_default-clause-rest g c = rw c.in_default.ensures c.moving.invariant.rest
+returns-in_default-clause-rest g c = rw c.in_default.ensures.1 c.moving.invariant.rest
