@@ -117,6 +117,10 @@ uint32_t earliest_road_prepared(earliest_road *road, earliest_road *prepared);
  * Any order serves; a good one makes searches quick. It takes a fraction of the time, since no order is looked for, and one order serves
  * roads with other weights and timetables. Refusals besides: EARLIEST_NO_ORDER if a node is missing or there twice. */
 uint32_t earliest_road_prepared_by(earliest_road *road, const uint32_t *order, size_t count, earliest_road *prepared);
+/* The same over the order of `like`, a third handle, which holds a prepared road with as many nodes: so roads with other weights and
+ * timetables on the same arcs are prepared in a fraction of the time. Refusals besides: EARLIEST_NO_ORDER if `like` isn't prepared or has
+ * another number of nodes. */
+uint32_t earliest_road_prepared_like(earliest_road *road, earliest_road *like, earliest_road *prepared);
 /* Lets a road go; `road` is EARLIEST_NOTHING then. Searches on it keep their shares and go on. */
 void earliest_road_free(earliest_road *road);
 

@@ -263,6 +263,16 @@ public:
         EARLIEST_TEST_(earliest_road_prepared_by(&core_->handle, order.data(), order.size(), &made.core_->handle), earliest_fault{});
         return made.counted();
     }
+    /// The same over the order of a prepared road with as many nodes, as one with other weights or timetables on the same arcs. A road that
+    /// isn't prepared is refused (EARLIEST_NO_ORDER).
+    detail::returned<road> prepared(const road &like) const {
+        EARLIEST_TEST_(core_ && like.core_ ? 0u : std::uint32_t{EARLIEST_NO_ROAD}, earliest_fault{});
+        if (core_ == like.core_) return prepared();
+        road made(std::make_unique<core>());
+        std::scoped_lock<std::mutex, std::mutex> alone(core_->lock, like.core_->lock);
+        EARLIEST_TEST_(earliest_road_prepared_like(&core_->handle, &like.core_->handle, &made.core_->handle), earliest_fault{});
+        return made.counted();
+    }
     /// Checks a report of searches from these nodes; one that isn't right is refused with the line of its first fault.
     detail::returned<void> check(list<std::uint32_t> nodes, const earliest_starts &starts, std::string_view report) const {
         EARLIEST_TEST_(core_ ? 0u : std::uint32_t{EARLIEST_NO_ROAD}, earliest_fault{});

@@ -75,9 +75,22 @@ class Core:
                 test(library().earliest_road_prepared(self.handle, prepared))
             else:
                 test(library().earliest_road_prepared_by(self.handle, _numbers.address(order), len(order), prepared))
-            self.handle, plain = prepared, self.handle
-            library().earliest_road_free(plain)
-            self.prepared = True
+            self._put(prepared)
+
+    def prepare_like(self, other: "Core") -> None:
+        """Puts a preparation beside the road, over the order of another prepared road with as many nodes."""
+        first, second = sorted((self, other), key=id)
+        if first is second:
+            return self.prepare(None)
+        with first.lock, second.lock:
+            prepared = Handle()
+            test(library().earliest_road_prepared_like(self.handle, other.handle, prepared))
+            self._put(prepared)
+
+    def _put(self, prepared: Handle) -> None:
+        self.handle, plain = prepared, self.handle
+        library().earliest_road_free(plain)
+        self.prepared = True
 
     def close(self):
         with self.lock:

@@ -137,7 +137,7 @@ class Road:
         """This road without names: its calls and answers speak of nodes by their numbers from 1."""
         return self._over(self._core, None, self._edges, self._places)
 
-    def prepare(self, order: Any = None) -> "Road":
+    def prepare(self, order: Any = None, like: Optional["Road"] = None) -> "Road":
         """Prepares this road, in place, for searches of pairs: far pairs take a fraction of the time, with the same arrivals. Returns the road.
 
         It takes seconds for 10^6 nodes, in which other threads wait for the road, and it pays from some hundred far pairs on. `pairs`,
@@ -149,8 +149,16 @@ class Road:
         `order` is an order of the nodes, each once, from the first that is passed over to the last, as a program for nested dissection finds
         it. Any serves, and a good one makes searches quick. None is looked for then, which is most of the time, and one order serves roads
         with other weights and timetables. A list without a node or with one twice is a Failure (27 NoOrder).
+
+        `like` is a prepared road with as many nodes, as one with other weights or timetables on the same arcs, whose order is taken. One that
+        isn't prepared is a Failure (27 NoOrder); `order` beside it is a ValueError.
         """
-        self._core.prepare(None if order is None else self._list(order))
+        if like is None:
+            self._core.prepare(None if order is None else self._list(order))
+        elif order is None:
+            self._core.prepare_like(like._core)
+        else:
+            raise ValueError("a road is prepared over an order, or like another road, and not both")
         return self
 
     # What it is

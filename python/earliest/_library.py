@@ -32,6 +32,7 @@ CALLS = (
     ("road_free", None, [_handle]),
     ("road_prepared", _number, [_handle, _handle]),
     ("road_prepared_by", _number, [_handle, ctypes.c_void_p, _size, _handle]),
+    ("road_prepared_like", _number, [_handle, _handle, _handle]),
     ("search_new", _number, [_handle, _number, _handle]),
     ("search_from", _number, [_handle, ctypes.c_void_p, _size, ctypes.c_void_p, _size]),
     ("search_pair", _number, [_handle, _number, ctypes.c_uint64, _number]),

@@ -77,7 +77,7 @@ def slow(program):
         while not said.endswith(b"end\r\n"):
             said += os.read(master, 4096)
         os.close(master)
-        form = re.fullmatch(rb"(\rearliest: \d of 3 problems, \d+ s)+\r\x1b\[Kend\r\n", said)
+        form = re.fullmatch(rb"(\r\x1b\[Kearliest: \d of 3 problems, \d+ s)+\r\x1b\[Kend\r\n", said)
         yield "progress on a terminal", (was[0], was[1], bool(form)), (0, late(program, "run - three.ss", folder, 0)[1], True)
 
 
@@ -108,8 +108,23 @@ def unread(program):
         yield "progress of a report that is read with pauses", (run.returncode, out == whole, len(tells) >= 3, grows), (0, True, True, True)
 
 
+def prepared(program):
+    """A preparation is told at once if it takes a while; nothing else is said of a run that ends within a second."""
+    with tempfile.TemporaryDirectory(prefix="progress-") as folder:
+        for nodes in (99_999, 100_000):
+            with open(os.path.join(folder, "line.gr"), "w", encoding="ascii") as file:
+                file.writelines([f"p sp {nodes} {nodes - 1}\n", *[f"a {at} {at + 1} 3\n" for at in range(1, nodes)]])
+            with open(os.path.join(folder, "line.p2p"), "w", encoding="ascii") as file:
+                file.write(f"p aux sp p2p 1\nq 1 {nodes}\n")
+            for word, line in (("yes", b"earliest: preparing a network of %d nodes\n" % nodes if nodes == 100_000 else b""), ("no", b"")):
+                run = subprocess.run([program, "pairs", "line.gr", "line.p2p", "--prepare", word, "--progress"], cwd=folder, stdin=subprocess.DEVNULL, capture_output=True, timeout=60)
+                said = LINE.sub(b"", run.stderr)
+                yield f"progress of a preparation: {word}, {nodes} nodes", (run.returncode, run.stdout, said), (0, b"q 1 %d 0\nd %d %d\n" % (nodes, nodes, 3 * (nodes - 1)), line)
+
+
 def results(program):
     """All of these: name, result, expected result."""
     program = os.path.abspath(program)
     yield from slow(program)
     yield from unread(program)
+    yield from prepared(program)

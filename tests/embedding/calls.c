@@ -432,6 +432,21 @@ static int long_path(uint32_t arcs) {
 /* A road and the same road prepared: a square of streets of which each has a class by chance, with timetables. The pairs of
  * the prepared one have the arrivals and walks of the other, and all other calls are the same. */
 enum { SIDE = 40 };
+/* Prepares a road over the order of one that is prepared; a road that isn't, or has other nodes, is refused, and the handles are as they were. */
+static int prepared_like(earliest_road *road, earliest_road *led) {
+    earliest_road empty = EARLIEST_NOTHING, small = EARLIEST_NOTHING, made = EARLIEST_NOTHING;
+    static const char gr[] = "p sp 2 1\na 1 2 3\n";
+    uint32_t nodes = earliest_road_nodes(road);
+    earliest_fault fault;
+    TEST(earliest_road_read(gr, sizeof gr - 1, NULL, 0, &small, &fault) == 0);
+    TEST(earliest_road_prepared_like(&empty, led, &made) == EARLIEST_NO_ROAD && earliest_road_prepared_like(road, &empty, &made) == EARLIEST_NO_ORDER);
+    TEST(earliest_road_prepared_like(road, &small, &made) == EARLIEST_NO_ORDER && earliest_road_prepared_like(&small, led, &made) == EARLIEST_NO_ORDER && made.at == NULL);
+    TEST(earliest_road_prepared_like(road, led, &made) == 0 && earliest_road_nodes(&made) == nodes && earliest_road_nodes(led) == nodes && earliest_road_nodes(road) == nodes);
+    TEST(earliest_road_prepared_like(road, &made, led) == 0 && earliest_road_nodes(led) == nodes);
+    earliest_road_free(&small), earliest_road_free(&made);
+    return 0;
+}
+
 /* Prepares a road over orders, and makes a search on the last; lists that are no order are refused, and the handle is as it was. */
 static int prepared_by(earliest_road *road, earliest_road *led, uint32_t nodes, uint32_t *order, earliest_search *search) {
     earliest_road empty = EARLIEST_NOTHING;
@@ -447,7 +462,7 @@ static int prepared_by(earliest_road *road, earliest_road *led, uint32_t nodes, 
     TEST(earliest_road_prepared_by(road, order, nodes, led) == 0 && earliest_road_nodes(led) == nodes);
     for (uint32_t at = 0; at < nodes; at++) order[at] = (at % SIDE) * (nodes / SIDE) + at / SIDE + 1;
     TEST(earliest_road_prepared_by(road, order, nodes, led) == 0 && earliest_road_nodes(led) == nodes);
-    return earliest_search_new(led, 1, search) != 0;
+    return prepared_like(road, led) != 0 || earliest_search_new(led, 1, search) != 0;
 }
 
 static int prepared(void) {

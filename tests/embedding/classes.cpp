@@ -36,6 +36,13 @@ int main() {
     } catch (const earliest::failure &refused) {
         TEST(refused.number() == EARLIEST_NO_ORDER);
     }
+    TEST(earliest::search(plain.prepared(led)).to({1, 0}, 4) == search.to({1, 0}, 4) && led.prepared(led).nodes() == 4);
+    try {
+        led.prepared(plain);
+        TEST(false);
+    } catch (const earliest::failure &refused) {
+        TEST(refused.number() == EARLIEST_NO_ORDER);
+    }
     earliest::road moved = std::move(led);
     TEST(earliest::search(moved, false).to({1, 3}, 4) == std::optional<std::uint64_t>(9));
     try {

@@ -189,6 +189,26 @@ class Answers(Case):
             self.refused(18, lambda: road.prepare([*range(40)]), 0)
             self.assertEqual((road.prepared, flat(road.pairs(sources, targets, departures))), (False, want))
 
+    def test_a_road_that_is_prepared_like_another(self):
+        net, other = self.networks[:2]
+        sources, targets = ([it % 40 + 1 for it in range(at, at + 120)] for at in (0, 13))
+        departures = [7 * it for it in range(120)]
+        wants = [[it.least([(source, departure)])[target - 1] for source, target, departure in zip(sources, targets, departures)] for it in (net, other)]
+        first, second = (earliest.Road(it.gr(), it.tp()) for it in (net, other))
+        self.refused(27, lambda: first.prepare(like=second))
+        self.refused(27, lambda: second.prepare(like=earliest.Road("p sp 2 1\na 1 2 3\n").prepare([2, 1])))
+        self.assertEqual((first.prepared, flat(first.pairs(sources, targets, departures))), (False, wants[0]))
+        # Other arcs, too, are prepared over the order, and a road like itself is prepared once.
+        self.assertIs(second.prepare(like=first.prepare()), second)
+        self.assertEqual([flat(it.pairs(sources, targets, departures)) for it in (first, second, first.prepare(like=first))], [*wants, wants[0]])
+        self.assertTrue(first.prepared and second.prepared)
+        with self.assertRaises(ValueError):
+            first.prepare(range(1, 41), like=second)
+        second.close()
+        self.refused(27, lambda: first.prepare(like=second))
+        self.refused(16, lambda: second.prepare(like=first))
+        self.assertEqual(flat(first.pairs(sources, targets, departures)), wants[0])
+
     def test_a_road_that_is_not_worth_a_preparation(self):
         net = plain.network(3, 4000, 16000, ())
         road = earliest.Road(net.gr())

@@ -9,6 +9,9 @@ pub trait Watch {
 
     /// The report of one more problem was checked, with these numbers of nodes and of walks to them.
     fn checked(&mut self, nodes: usize, walks: usize);
+
+    /// A network with this number of nodes is about to be prepared, before the first problem.
+    fn prepares(&mut self, nodes: u32);
 }
 
 /// Reports nothing.
@@ -19,4 +22,6 @@ impl Watch for Silent {
     fn did(&mut self, _done: usize, _of: usize) {}
 
     fn checked(&mut self, _nodes: usize, _walks: usize) {}
+
+    fn prepares(&mut self, _nodes: u32) {}
 }

@@ -7,6 +7,9 @@ use std::time::Instant;
 /// How many seconds are between two lines, at least.
 const PAUSE: u64 = 1;
 
+/// A network with fewer nodes is prepared in less than about half a second, and no line tells of it.
+const LONG_TO_PREPARE: u32 = 100_000;
+
 /// Whether a command shows how far it is.
 pub fn tells_progress(command: &Command<'_>) -> bool {
     match command {
@@ -66,9 +69,20 @@ impl<'a> Line<'a> {
         let rt = self.rt;
         let _ = if self.is_terminal {
             self.is_shown = true;
-            eprint!(rt; "\rearliest: {done} of {of} problems, {seconds} s")
+            eprint!(rt; "\r\x1b[Kearliest: {done} of {of} problems, {seconds} s")
         } else {
             eprintln!(rt; "earliest: {done} of {of} problems, {seconds} s")
+        };
+    }
+
+    /// Shows that a network is being prepared.
+    fn tell_preparing(&mut self, nodes: u32) {
+        let rt = self.rt;
+        let _ = if self.is_terminal {
+            self.is_shown = true;
+            eprint!(rt; "\r\x1b[Kearliest: preparing a network of {nodes} nodes")
+        } else {
+            eprintln!(rt; "earliest: preparing a network of {nodes} nodes")
         };
     }
 
@@ -108,5 +122,18 @@ impl Watch for Line<'_> {
         self.problems = self.problems.saturating_add(1);
         self.nodes = self.nodes.saturating_add(nodes);
         self.walks = self.walks.saturating_add(walks);
+    }
+
+    fn prepares(&mut self, nodes: u32) {
+        let Some(times) = self.times else {
+            return;
+        };
+        if nodes < LONG_TO_PREPARE {
+            return;
+        }
+        if let Ok(told) = Instant::now(self.rt) {
+            self.times = Some(Times { told, ..times });
+            self.tell_preparing(nodes);
+        }
     }
 }

@@ -239,6 +239,19 @@ impl Prepared {
         self.ranks.len() as u32
     }
 
+    /// The order of the nodes, from the first that is passed over to the last: it serves any road with as many nodes. An error comes only if
+    /// memory was refused.
+    pub fn order(&self, alloc: Global) -> Result<Vec<u32>, AllocError> {
+        let mut order = vec![in alloc; 0u32; self.ranks.len()]?;
+        for place in 0..self.ranks.len() {
+            let node = (place as u32).saturating_add(1);
+            if let Some(slot) = order.get_mut(self.ranks[place] as usize) {
+                *slot = node;
+            }
+        }
+        Ok(order)
+    }
+
     /// Whether a node is on a chain: it has at most two neighbours, so a search may pass through it without a bound.
     #[inline(always)]
     pub fn is_on_chain(&self, node: u32) -> bool {

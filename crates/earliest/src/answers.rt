@@ -192,7 +192,7 @@ pub(crate) fn pairs_watched<
     }
     let queries = pair_queries(alloc, &files.pairs, schedule)?;
     let shown = shown_by(options, &extras);
-    let prepared = prepared_for(alloc, rt, &files.road, &queries, options);
+    let prepared = prepared_for(alloc, rt, &files.road, &queries, options, watch);
     let aids = Aids {
         prepared: prepared.as_ref(),
         layout: None,

@@ -7,7 +7,7 @@ ghost use Rattle.ea_batch.specs.Solved.{IsPreparedOn};
 ghost use Rattle.earliest.specs.Choices.{CanPrepare, are_many, pays_for};
 
 use crate::solver_choice::{asks_for_workers, threads_at_once};
-use ea_base::Direction;
+use ea_base::{Direction, Watch};
 use ea_hierarchy::Prepared;
 use ea_layout::Layout;
 use ea_load::Road;
@@ -109,13 +109,14 @@ fn prepare(alloc: Global, road: &Road, query: &Query) -> Option<Prepared>
 }
 
 /// A preparation of the road for searches of pairs, if it is asked for, or if it pays and isn't excluded, and if it can be
-/// made. Workers and statistics do without.
-pub(crate) fn prepared_for<H: Threads>(
+/// made. Workers and statistics do without. The watch learns of it first.
+pub(crate) fn prepared_for<H: Threads, V: Watch>(
     alloc: Global,
     rt: &H,
     road: &Road,
     queries: &[Query],
     options: &RunOptions,
+    watch: &mut V,
 ) -> Option<Prepared>
     requires can { CanPrepare road.now queries.now options.now }
     ensures { IfSome result (IsPreparedOn road.now) }
@@ -128,6 +129,7 @@ pub(crate) fn prepared_for<H: Threads>(
         None => is_worth(alloc, rt, road, queries, options),
     };
     if is_wanted {
+        watch.prepares(road.network.nodes());
         prepare(alloc, road, &queries[0])
     } else {
         None

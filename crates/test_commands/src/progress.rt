@@ -25,6 +25,9 @@ struct Told {
     grows: bool,
     nodes: usize,
     walks: usize,
+    /// How often a network was prepared, and how many nodes it had.
+    preparations: usize,
+    prepared: u32,
 }
 
 const NOTHING: Told = Told {
@@ -34,6 +37,8 @@ const NOTHING: Told = Told {
     grows: true,
     nodes: 0,
     walks: 0,
+    preparations: 0,
+    prepared: 0,
 };
 
 impl Watch for Told {
@@ -47,6 +52,11 @@ impl Watch for Told {
     fn checked(&mut self, nodes: usize, walks: usize) {
         self.nodes = self.nodes.saturating_add(nodes);
         self.walks = self.walks.saturating_add(walks);
+    }
+
+    fn prepares(&mut self, nodes: u32) {
+        self.preparations = self.preparations.saturating_add(1);
+        self.prepared = nodes;
     }
 }
 
@@ -199,6 +209,36 @@ fn each_pair_is_told(rt: HostRuntime) {
 }
 
 #[test]
+fn a_preparation_is_told_before_the_pairs(rt: HostRuntime) {
+    for (prepare, preparations) in [(Some(true), 1), (Some(false), 0), (None, 0)] {
+        let command = Command::Pairs {
+            gr: "g",
+            p2p: "q",
+            tp: None,
+            times: None,
+            output: None,
+            options: RunOptions {
+                prepare,
+                ..DEFAULTS
+            },
+        };
+        let told = Told {
+            calls: 2,
+            done: 2,
+            of: 2,
+            preparations,
+            prepared: if preparations > 0 { 4 } else { 0 },
+            ..NOTHING
+        };
+        let report = b"q 1 4 0\nd 4 6\nq 2 4 0\nd 4 1\n";
+        assert_eq!(rt;
+            told_of(&rt, &rt, &command, (PAIRS, None), report),
+            (told, true)
+        );
+    }
+}
+
+#[test]
 fn each_source_of_rank_errors_is_told(rt: HostRuntime) {
     let command = Command::Rank {
         gr: "g",
@@ -238,9 +278,9 @@ fn what_is_checked_is_told(rt: HostRuntime) {
         calls: 3,
         done: 3,
         of: 3,
-        grows: true,
         nodes: 12,
         walks: 2,
+        ..NOTHING
     };
     assert_eq!(rt;
         told_of(&rt, &rt, &command, (THREE, Some(WALKED)), b""),

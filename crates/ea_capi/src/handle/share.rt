@@ -143,7 +143,7 @@ impl Share {
     }
 
     /// Its preparation, if it has one.
-    fn preparation(&self) -> Option<&Prepared>
+    pub fn preparation(&self) -> Option<&Prepared>
         ensures same { option_map (λ it. it.now) result ≡ self.now.prepared }
         ensures fits { IfSome result (λ it. IsPreparedFor self.now.road.network
             (times_on self.now.road) it.now) }

@@ -125,6 +125,58 @@ fn prepared_by(alloc: Global, content: &Content, order: &[u32]) -> Result<Box<Co
     }
 }
 
+/// The order of a road's preparation, or the refusal's number: there is none, or memory was refused.
+fn order_of(alloc: Global, content: &Content) -> Result<Vec<u32>, u32>
+    ensures { IfErr result IsUnprepared }
+{
+    let Content::Road(share) = content else {
+        return Err(NO_ORDER);
+    };
+    let Some(prepared) = share.preparation() else {
+        return Err(NO_ORDER);
+    };
+    match prepared.order(alloc) {
+        Ok(order) => Ok(order),
+        Err(_) => Err(OUT_OF_MEMORY),
+    }
+}
+
+/// The order of the preparation that a handle holds.
+fn order_in(alloc: Global, like: &mut Handle) -> Result<Vec<u32>, u32>
+    ensures same { like.new.value ≡ like.old.value }
+    ensures refused { IfErr result IsUnprepared }
+{
+    let Some(content) = like.take(alloc) else {
+        return Err(NO_ORDER);
+    };
+    let order = order_of(alloc, &content);
+    like.put(content);
+    order
+}
+
+/// The road of a content with a preparation over the order of another, or the refusal's number.
+fn prepared_like(
+    alloc: Global,
+    content: &Content,
+    like: &mut Handle,
+) -> Result<Box<Content, Global>, u32>
+    ensures same { like.new.value ≡ like.old.value }
+    ensures made { IfOk result (λ it. IsPreparedOf (road_in (Some content.now)) it.value) }
+    ensures refused { IfErr result (λ number.
+        MatchOption (road_in (Some content.now)) (number ≡ 16) (λ _. IsUnprepared number)) }
+{
+    let Content::Road(share) = content else {
+        return Err(NO_ROAD);
+    };
+    match order_in(alloc, like) {
+        Ok(order) => match road_by_order(alloc, share.terrain(), &order) {
+            Ok(found) => Ok(found),
+            Err(why) => Err(number_of(why)),
+        },
+        Err(number) => Err(number),
+    }
+}
+
 /// Prepares a road: the searches of pairs on it are led by bounds of the travel time to the target, and find
 /// the same arrivals and walks. Takes seconds for 10^6 nodes, once for all searches.
 ///
@@ -175,6 +227,36 @@ pub extern "C" fn earliest_road_prepared_by(
         return NO_ROAD;
     };
     let made = prepared_by(alloc, &content, order);
+    road.put(content);
+    match made {
+        Ok(found) => {
+            prepared.put(found);
+            DONE
+        }
+        Err(number) => number,
+    }
+}
+
+/// Prepares a road over the order of another one that is prepared, as one with other weights or timetables on the same arcs: no order is
+/// looked for, which takes most of the time.
+///
+/// The handle `prepared` is as after `earliest_road_prepared`. Returns 27 if `like` holds no preparation, or one of another number of nodes.
+/// If the call doesn't return 0, the handle is unchanged.
+#[unsafe(no_mangle)]
+pub extern "C" fn earliest_road_prepared_like(
+    alloc: Global,
+    road: &mut Handle,
+    like: &mut Handle,
+    prepared: &mut Handle,
+) -> u32
+    ensures same { road.new.value ≡ road.old.value }
+    ensures like { like.new.value ≡ like.old.value }
+    ensures made { IsPrepared (road_in road.old.value) prepared.old.value prepared.new.value result }
+{
+    let Some(content) = road.take(alloc) else {
+        return NO_ROAD;
+    };
+    let made = prepared_like(alloc, &content, like);
     road.put(content);
     match made {
         Ok(found) => {
