@@ -21,7 +21,8 @@ pub(crate) struct Potential {
 
 impl Potential {
     /// Begins bounds to a target, from a source that is farther from it than the distance that was searched. Bounds that end at a small
-    /// multiple of that distance come first, since they look at few upward arcs; they serve if the source's bound is nearer.
+    /// multiple of that distance come first, since they look at few upward arcs; they serve if the source's bound is nearer. If nothing
+    /// was searched, bounds have no end.
     pub(crate) fn begin(&mut self, prepared: &Prepared, source: u32, target: u32, searched: u64)
         requires room { IsRoomFor prepared.now self.old.bounds }
         requires source { (0 < source) × (source ≤ length prepared.now.ranks) }
@@ -30,7 +31,8 @@ impl Potential {
     {
         self.asked = 0;
         let mut far = searched.min(u64::from(u32::MAX)) as u32;
-        for _ in 0..LOOKS {
+        let looks = if searched > 0 { LOOKS } else { 0 };
+        for _ in 0..looks {
             far = far.saturating_mul(FARTHER);
             self.bounds.begin(prepared, target, far);
             if let Some(bound) = self.bounds.bound(prepared, source) {

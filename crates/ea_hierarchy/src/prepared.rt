@@ -96,16 +96,19 @@ fn limits_of(network: &Network) -> Limits {
     }
 }
 
-/// The least number of nodes that are near.
-const LEAST_NEAR: u64 = 1100;
+/// How many nodes are near if the network has small cuts.
+const LEAST_NEAR: u32 = 1_400;
 
-/// How many upward arcs on a way up there are for each of them.
+/// How many upward arcs on a way up there are for each node that is near, if it has large ones.
 const ARCS_A_NODE: u64 = 64;
+
+/// In a network with small cuts, nodes that are near have ranks that differ by less than this many times `LEAST_NEAR`.
+const RANKS_A_NODE: u32 = 16;
 
 /// How many nodes a search without bounds may scan in less than the time of a first bound.
 fn near_by(upward: &Upward) -> u32 {
     let nodes = mean_arcs_above(upward) / ARCS_A_NODE;
-    nodes.max(LEAST_NEAR).min(u64::from(NONE)) as u32
+    nodes.min(u64::from(NONE)) as u32
 }
 
 /// Numbers at upward arcs for these travel times.
@@ -268,10 +271,25 @@ impl Prepared {
             .saturating_add(self.trimmed_downs.left_out)
     }
 
-    /// How many nodes a search without bounds may scan in less than the time of a first bound. A target beyond them is searched led by
-    /// bounds, from the sources again.
-    pub fn near(&self) -> u32 {
-        self.near
+    /// How many nodes a search from a source may scan before it is led by bounds to a target: less than take the time of a first bound. In a
+    /// network with small cuts that time is short, and a target isn't near unless it is in the same small part, where ranks are close.
+    pub fn near(&self, source: u32, target: u32) -> u32 {
+        if LEAST_NEAR < self.near {
+            return self.near;
+        }
+        if self.rank(source).abs_diff(self.rank(target)) < LEAST_NEAR * RANKS_A_NODE {
+            LEAST_NEAR
+        } else {
+            0
+        }
+    }
+
+    /// The rank of a node; 0 if there is no such node.
+    fn rank(&self, node: u32) -> u32 {
+        match self.ranks.get((node as usize).wrapping_sub(1)) {
+            Some(rank) => *rank,
+            None => 0,
+        }
     }
 
     /// For proofs: the upward arcs and their numbers are in order. Does nothing at run time.

@@ -322,8 +322,13 @@ fn arcs_that_others_replace_are_left_out(rt: HostRuntime) -> Result<(), Fail> {
     Ok(())
 }
 
-/// How many nodes are near over a preparation of a shape, in turn; none if it is none.
-fn near_in(alloc: Global, shape: Shape, nodes: u32) -> Result<Option<u32>, Unprepared> {
+/// How many nodes are near node 1, on the way to this one, over a preparation of a shape, in turn; none if it is none.
+fn near_in(
+    alloc: Global,
+    shape: Shape,
+    nodes: u32,
+    target: u32,
+) -> Result<Option<u32>, Unprepared> {
     let Some(network) = network_of_shape(alloc, shape, nodes)? else {
         return Ok(None);
     };
@@ -335,21 +340,26 @@ fn near_in(alloc: Global, shape: Shape, nodes: u32) -> Result<Option<u32>, Unpre
     }
     let order = in_turn(alloc, nodes)?;
     let prepared = Prepared::with_order(alloc, &network, &times, &order)?;
-    Ok(Some(prepared.near()))
+    Ok(Some(prepared.near(1, target)))
 }
 
 #[test]
-fn few_nodes_are_near_if_ways_up_are_short(rt: HostRuntime) -> Result<(), Fail> {
-    let near = near_in(rt.alloc(), Shape::Path, 400).map_err(|_| "prepared")?;
-    assert_eq!(rt; near, Some(512));
+fn nodes_are_near_by_their_ranks_if_ways_up_are_short(rt: HostRuntime) -> Result<(), Fail> {
+    let alloc = rt.alloc();
+    for (target, wanted) in [(2, 1_400), (22_400, 1_400), (22_401, 0), (23_000, 0)] {
+        let near = near_in(alloc, Shape::Path, 23_000, target).map_err(|_| "prepared")?;
+        assert_eq!(rt; near, Some(wanted));
+    }
     Ok(())
 }
 
 #[test]
 fn more_nodes_are_near_if_ways_up_are_long(rt: HostRuntime) -> Result<(), Fail> {
     // 1,000 nodes that are all joined: from the ranks that are looked at there are on average 177,000 arcs to the top.
-    let near = near_in(rt.alloc(), Shape::Clique, 1000).map_err(|_| "prepared")?;
-    assert!(rt; near > Some(600) && near < Some(700));
+    for target in [2, 1_000] {
+        let near = near_in(rt.alloc(), Shape::Clique, 1_000, target).map_err(|_| "prepared")?;
+        assert!(rt; near > Some(2_400) && near < Some(2_800));
+    }
     Ok(())
 }
 

@@ -14,7 +14,7 @@ use crate::link_search::link_all;
 use crate::search::{Arrays, Search, width_without_walks};
 use ea_goal::{Guide, Led, lead};
 use ea_hierarchy::Prepared;
-use ea_road::{Network, Query};
+use ea_road::{Network, Query, Source};
 use ea_search::{Frontier, Open, Reached, Table, finish_noted, search_near};
 use ea_travel_times::TravelTimes;
 use std::alloc::Global;
@@ -145,6 +145,14 @@ fn lead_arrays<T: TravelTimes>(
         guide: Some(guide),
     };
     (arrays, is_found)
+}
+
+/// How many nodes near the first source may be scanned before bounds are begun.
+fn near_of(prepared: &Prepared, sources: &[Source], target: u32) -> u32 {
+    match sources.first() {
+        Some(source) => prepared.near(source.node, target),
+        None => 0,
+    }
 }
 
 /// Searches from the sources on a reset table and empty lists until each label is least, unless about as many nodes were scanned as `most`
@@ -295,7 +303,7 @@ impl Search {
         ensures { HasFound network.now (T.answers times.now) query.now self result }
     {
         let walks = self.walks;
-        let near = prepared.near();
+        let near = near_of(prepared, query.sources(), target);
         let (arrays, until) = search_arrays(
             self.into_arrays(),
             network,
