@@ -192,9 +192,13 @@ impl Trimmed {
         ensures { (firsts heads numbers : List ℕ) → AreTrimmed firsts heads numbers self.now.rows.items
             → IfSome result (λ links. IsTrimmed firsts heads numbers rank links.now) }
     {
-        let hint = *self
-            .hints
-            .get(upward.firsts[rank as usize] as usize / LONG)?;
+        let begin = upward.firsts[rank as usize] as usize;
+        let end = upward.firsts[rank as usize + 1] as usize;
+        // Most ranks have few arcs: hints and rows aren't touched for them.
+        if end.saturating_sub(begin) < LONG {
+            return None;
+        }
+        let hint = *self.hints.get(begin / LONG)?;
         let row = self.rows.get(hint)?;
         if row.rank == rank {
             Some(&row.links)
