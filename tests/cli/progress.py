@@ -109,7 +109,7 @@ def unread(program):
 
 
 def prepared(program):
-    """A preparation is told at once if it takes a while; nothing else is said of a run that ends within a second."""
+    """A preparation that takes a while has a line at once; nothing else is said of a run that ends within a second."""
     with tempfile.TemporaryDirectory(prefix="progress-") as folder:
         for nodes in (99_999, 100_000):
             with open(os.path.join(folder, "line.gr"), "w", encoding="ascii") as file:

@@ -7,7 +7,7 @@ use std::time::Instant;
 /// How many seconds are between two lines, at least.
 const PAUSE: u64 = 1;
 
-/// A network with fewer nodes is prepared in less than about half a second, and no line tells of it.
+/// A network with fewer nodes is prepared in less than about half a second, without a line.
 const LONG_TO_PREPARE: u32 = 100_000;
 
 /// Whether a command shows how far it is.

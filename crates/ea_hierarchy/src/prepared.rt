@@ -272,7 +272,7 @@ impl Prepared {
     }
 
     /// How many nodes a search from a source may scan before it is led by bounds to a target: less than take the time of a first bound. In a
-    /// network with small cuts that time is short, and a target isn't near unless it is in the same small part, where ranks are close.
+    /// network with small cuts that time is short, and a target isn't near unless it is in the same small part, whose ranks are close.
     pub fn near(&self, source: u32, target: u32) -> u32 {
         if LEAST_NEAR < self.near {
             return self.near;
