@@ -159,6 +159,29 @@ def in_less_time(program, folder):
     yield "a star is prepared in seconds", (status, time.monotonic() - begun < 10), (0, True)
 
 
+def near_pairs(program, folder):
+    """Near pairs on a prepared road take about the processor time of a search without: what 4,000 more pairs add. Were each led by bounds,
+    it would be ten times as much."""
+    words = random.Random(8)
+    side, near, added = 300, 8, {}
+    write(folder, "gr", graph(side * side, grid(side, words)))
+    asked = []
+    for _ in range(4_001):
+        row, column = words.randint(0, side - near - 1), words.randint(0, side - near - 1)
+        asked.append(f"q {row * side + column + 1} {(row + words.randint(1, near)) * side + column + words.randint(1, near) + 1}\n")
+    for name, lines in (("one", asked[:1]), ("all", asked)):
+        write(folder, name, [f"p aux sp p2p {len(lines)}\n", *lines])
+    reports = {}
+    for word in ("yes", "no"):
+        took = {}
+        for name in ("one", "all"):
+            runs = [processor_seconds(program, f"pairs gr {name} --prepare {word} --at-once 1", folder) for _ in range(3)]
+            took[name], reports[word, name] = min(it[2] for it in runs), {it[:2] for it in runs}
+        added[word] = took["all"] - took["one"]
+    yield "near pairs on a prepared road: the same report", reports["yes", "all"] == reports["no", "all"] and len(reports["yes", "all"]), 1
+    yield "near pairs on a prepared road: about the same time", added["yes"] <= 4 * added["no"] + 0.3 or added, True
+
+
 def numbered_at_random(program, folder):
     """A grid whose nodes are numbered at random: what is searched on a layout has the bytes of single searches."""
     words = random.Random(9)
@@ -185,7 +208,7 @@ def results(program):
     """All of these: name, result, expected result."""
     program = os.path.abspath(program)
     found = []
-    for part in (at_random, along_streets, of_shapes, in_less_time, numbered_at_random):
+    for part in (at_random, along_streets, of_shapes, in_less_time, near_pairs, numbered_at_random):
         with tempfile.TemporaryDirectory() as folder:
             found += list(part(program, folder))
     return found
