@@ -105,7 +105,7 @@ fn make_draft(job: Job<'_>, query: &Query, last: &mut Option<Searching>) -> Draf
         &mut sheet,
     ) {
         Ok(_) => {
-            *last = Some(found);
+            drop(last.replace(found));
             Draft::Text(sheet.text)
         }
         Err(_) => Draft::Answer(found),
@@ -160,7 +160,8 @@ pub(crate) fn make_drafts(job: Job<'_>, span: Span, last: &mut Option<Searching>
     };
     for at in span.from..span.to {
         let draft = make_draft_at(job, at, at == span.from, last);
-        if made.drafts.push(draft).is_err() {
+        if let Err(refused) = made.drafts.push(draft) {
+            drop(refused);
             return made;
         }
     }

@@ -67,6 +67,7 @@ pub(crate) fn make_in_lane<J: Asks>(job: Job<'_>, round: &Round, lane: &mut Lane
         }
     }
     round.leave();
+    drop(last);
 }
 
 /// The drafts that threads left for the sending thread, in no order.

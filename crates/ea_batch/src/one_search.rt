@@ -29,7 +29,8 @@ fn plain_arrays(
     let nodes = road.network.nodes();
     match last {
         Some(Searching::Plain(search)) => Ok(search),
-        _ => {
+        other => {
+            drop(other);
             if walks {
                 Search::reserve(alloc, nodes)
             } else {
@@ -52,7 +53,8 @@ fn laid_arrays(
     let nodes = road.network.nodes();
     match last {
         Some(Searching::Laid(search)) => Ok(search),
-        _ => {
+        other => {
+            drop(other);
             if walks {
                 LaidSearch::reserve(alloc, nodes)
             } else {
@@ -118,7 +120,8 @@ fn asked_arrays(
     let nodes = road.network.nodes();
     match last {
         Some(Searching::Asked(search)) => Ok(search),
-        _ => {
+        other => {
+            drop(other);
             if walks {
                 AskedSearch::reserve(alloc, nodes)
             } else {

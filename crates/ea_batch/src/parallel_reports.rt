@@ -134,9 +134,9 @@ impl Progress<'_> {
                 Ok(())
             }
             Draft::Answer(found) => {
-                self.write(alloc, road, query, found.answer(), shown, out)?;
-                self.search = Some(found);
-                Ok(())
+                let sent = self.write(alloc, road, query, found.answer(), shown, out);
+                self.keep_search(found);
+                sent
             }
         }
     }
@@ -342,9 +342,14 @@ fn report_asked<'a, J: Asks, H: Threads + Sync, W: ByteOut, V: Watch>(
         Err(_) => return Err(AnswerFault::OutOfMemory { written: 0 }),
     };
     let mut progress = Progress::begin(aids, Some(used));
-    match send_all(&mut progress, rt, job, &mut lanes, watch, out) {
+    let sent = send_all(&mut progress, rt, job, &mut lanes, watch, out);
+    drop(lanes);
+    match sent {
         Ok(()) => Ok(progress),
-        Err(fault) => Err(fault),
+        Err(fault) => {
+            drop(progress);
+            Err(fault)
+        }
     }
 }
 

@@ -1,5 +1,5 @@
 //! Reports of problems that one thread answers.
-ghost use Rattle.std.specs.Prelude.{◌≡◌, ◌≤◌, ◌<◌, ◌+◌, ◌*◌, ◌^◌};
+ghost use Rattle.std.specs.Prelude.{◌≡◌, ◌≤◌, ◌<◌, ◌+◌, ◌*◌, ◌^◌, Some};
 ghost use Rattle.ea_base.specs.declared.limits.TheConstants.{MOST_STARTS};
 ghost use Rattle.ea_load.specs.Faults;
 ghost use Rattle.ea_batch.specs.Arrays.{CanReport, HasSentNothing, KeepsArrays, StaysAided};
@@ -84,6 +84,13 @@ impl Progress<'_> {
         }
     }
 
+    /// Keeps the arrays of a search for the next one.
+    pub(crate) fn keep_search(&mut self, found: Searching)
+        ensures { self.new ≡ record self.old { search = Some found } }
+    {
+        drop(self.search.replace(found));
+    }
+
     /// Finds the answer of a problem by one thread, on the arrays of the last search, and writes its report.
     pub fn report_alone<W: ByteOut>(
         &mut self,
@@ -101,10 +108,10 @@ impl Progress<'_> {
     {
         let last = self.search.take();
         match search(alloc, road, self.aids, query, shown, last) {
-            Ok(search) => {
-                self.write(alloc, road, query, search.answer(), shown, out)?;
-                self.search = Some(search);
-                Ok(())
+            Ok(found) => {
+                let sent = self.write(alloc, road, query, found.answer(), shown, out);
+                self.keep_search(found);
+                sent
             }
             Err(_) => Err(AnswerFault::OutOfMemory {
                 written: self.written,

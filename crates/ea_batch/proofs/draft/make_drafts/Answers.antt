@@ -20,8 +20,8 @@ loop-at-preserved c =
       search = c.make_draft_at-draft.ensures.search;
     }
 
-pub returns-then-is_err-clause-drafts : goal.returns-then-is_err-clause-drafts
-returns-then-is_err-clause-drafts c =
+pub returns-in-Err-clause-drafts : goal.returns-in-Err-clause-drafts
+returns-in-Err-clause-drafts c =
     let inv = c.loop-at.invariant in
     let drafts = c.loop-at.made.drafts.items in
     let fits = IsDraftAt (shape_of c.args.job.shown) c.args.job.road.now c.args.job.queries.now in
