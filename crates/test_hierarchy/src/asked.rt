@@ -1,4 +1,4 @@
-//! How many bounds a led search asks for: none near its source, and none inside streets.
+//! How many bounds a led search asks for: few near its source, and none inside streets.
 ghost use Rattle.std.specs.Prelude.{◌≡◌, length};
 ghost use Rattle.ea_hierarchy.specs.Preparations.{IsPreparedFor};
 ghost use Rattle.ea_travel_times.specs.StepLists.{steps_in};
@@ -43,7 +43,7 @@ fn asked_between(
         listed: Listed::new(alloc, network.nodes()),
     };
     let guide = Guide::over(alloc, prepared)?;
-    let led = lead(network, times, prepared, &query, target, guide, table);
+    let led = lead(network, times, prepared, &query, target, guide, table, 0);
     Ok(Some(led.guide.asked()))
 }
 
@@ -73,17 +73,17 @@ fn asked_in_streets(
 }
 
 #[test]
-fn a_near_pair_does_without_bounds(rt: HostRuntime) -> Result<(), Fail> {
+fn a_near_pair_asks_for_few_bounds(rt: HostRuntime) -> Result<(), Fail> {
     // Two streets from the first crossing of 1,600.
     let asked = asked_in_streets(rt.alloc(), 40, 0, 42).map_err(|_| "prepared")?;
-    assert_eq!(rt; asked, Some(0));
+    assert!(rt; asked > Some(0) && asked < Some(40));
     Ok(())
 }
 
 #[test]
 fn a_far_pair_is_led_by_bounds(rt: HostRuntime) -> Result<(), Fail> {
     let asked = asked_in_streets(rt.alloc(), 60, 0, 3_600).map_err(|_| "prepared")?;
-    assert!(rt; asked > Some(0));
+    assert!(rt; asked > Some(40));
     Ok(())
 }
 
