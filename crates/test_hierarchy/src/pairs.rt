@@ -8,9 +8,11 @@ ghost use Rattle.ea_travel_times.specs.TimetableLists.{TimetablesAnswer};
 use crate::random::{number_to, random_network, times_of_all_kinds};
 use crate::streets::{Plan, streets};
 use ea_base::HORIZON;
+use ea_goal::{Guide, lead};
 use ea_hierarchy::{Prepared, Unprepared};
 use ea_paths::{Answer, Search, solve_alone};
-use ea_road::{Network, Query, Source, is_problem};
+use ea_road::{NONE, Network, Query, Source, is_problem};
+use ea_search::{Listed, Reached};
 use ea_travel_times::Timetables;
 use rand_core::{Rng, SeedableRng};
 use rand_xoshiro::Xoshiro256PlusPlus;
@@ -114,6 +116,33 @@ fn random_pair<R: Rng>(words: &mut R, network: &Network, times: &Timetables) -> 
     }
 }
 
+/// The target's arrival by a search that is led by bounds from the sources on; none if it isn't reached.
+fn led_arrival(
+    alloc: Global,
+    network: &Network,
+    times: &Timetables,
+    prepared: &Prepared,
+    query: &Query,
+) -> Result<Option<u64>, AllocError>
+    requires problem { IsProblem network.now (length times.now.list.items) query.now }
+    requires prepared { IsPreparedFor network.now
+        (TimetablesAnswer times.now.list.items (steps_in times.now.steps)) prepared.now }
+{
+    let Some(target) = query.target() else {
+        return Ok(None);
+    };
+    let table = Reached {
+        labels: vec![in alloc; NONE; network.nodes() as usize]?,
+        listed: Listed::new(alloc, network.nodes()),
+    };
+    let guide = Guide::over(alloc, prepared)?;
+    let led = lead(network, times, prepared, query, target, guide, table, 150);
+    match led.table.labels.get((target as usize).wrapping_sub(1)) {
+        Some(label) if *label <= HORIZON => Ok(Some(*label)),
+        _ => Ok(None),
+    }
+}
+
 /// Searches a pair over a preparation and without one, and counts. Returns the arrays.
 fn compare(
     alloc: Global,
@@ -140,6 +169,10 @@ fn compare(
         count.reached = count.reached.wrapping_add(1);
     }
     if !agree(&found, &wanted, search.answer().has_walks()) {
+        count.differ = count.differ.wrapping_add(1);
+    }
+    // A near pair is found without bounds.
+    if led_arrival(alloc, network, times, prepared, &pair.query)? != wanted.arrival {
         count.differ = count.differ.wrapping_add(1);
     }
     Ok(search)
