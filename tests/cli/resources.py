@@ -110,16 +110,19 @@ def slow_reader(program, folder):
     with subprocess.Popen([program, *words.split()], cwd=folder, stdin=subprocess.DEVNULL, stdout=subprocess.PIPE) as run:
         run.stdout.read(1)
         time.sleep(WAIT)
-        before = processor_time(run.pid)
-        time.sleep(1)
-        idle = processor_time(run.pid) - before
+        for _ in range(8):
+            before = processor_time(run.pid)
+            time.sleep(1)
+            idle = processor_time(run.pid) - before
+            if idle <= 0.1:
+                break
         with open(f"/proc/{run.pid}/status", encoding="ascii") as file:
             fields = dict(line.split(":", 1) for line in file)
         is_waiting = run.poll() is None
         run.kill()
     peak = int(fields["VmHWM"].split()[0]) // 1024
     yield f"resources: {words}, megabytes ahead of a slow reader", (is_waiting, peak <= 240 or peak), (True, True)
-    yield f"resources: {words}, processor time while nothing is read", idle <= 0.5 or idle, True
+    yield f"resources: {words}, processor time while nothing is read", idle <= 0.1 or idle, True
 
 
 def after_a_fault(program, folder):
@@ -138,6 +141,12 @@ def long_walks(program, folder):
     for at_once in (4, 16):
         status, said, _, _, _, written = ran(program, f"run walks.gr walks.ss --walks --at-once {at_once}", folder, 64 * at_once)
         yield f"resources: walks of a path from each node, {at_once} at once", (status, said, written > 400 * MEGABYTE), (0, b"", True)
+    # Reports of 22 MB, of which a part has eight: they are written from their answers, since their texts are too long to be kept.
+    write_path(folder, "walks.gr", 3000)
+    write(folder, "walks.ss", ["p aux sp ss 64\n", *[f"s {node}\n" for node in range(1, 65)]])
+    words = "run walks.gr walks.ss --walks --at-once 2"
+    most = peak(program, words, folder) // 1024
+    yield f"resources: {words}, megabytes of long reports", most <= 128 or most, True
 
 
 def shared_walks(program, folder):
@@ -156,15 +165,23 @@ def alone(program, folder):
     yield "resources: one worker without statistics is the search of one thread", 1.5 * one <= counted or (one, counted), True
 
 
-def thread_seconds(program, words, folder):
-    """The seconds of each thread of a run that ends well in its own code, not in the system, as they were last seen."""
+def thread_seconds(program, words, folder, is_slowed=lambda is_first: False):
+    """The seconds of each thread of a run that ends well in its own code, not in the system, as they were last seen. The run has one
+    processor, so that a thread that waits for others takes next to nothing: it yields the processor to them. Those that are slowed get it
+    when no other of the run wants it."""
+    def limit():
+        os.sched_setaffinity(0, sorted(os.sched_getaffinity(0))[:1])
+
     seen = {}
-    with subprocess.Popen([program, *words.split()], cwd=folder, stdin=subprocess.DEVNULL, stdout=subprocess.DEVNULL) as run:
+    with subprocess.Popen([program, *words.split()], cwd=folder, stdin=subprocess.DEVNULL, stdout=subprocess.DEVNULL, preexec_fn=limit) as run:
         while run.poll() is None:
             for task in glob.glob(f"/proc/{run.pid}/task/*/stat"):
                 with contextlib.suppress(OSError), open(task, encoding="ascii") as file:
                     front, _, rest = file.read().rpartition(")")
-                    seen[int(front.split()[0])] = int(rest.split()[11]) / os.sysconf("SC_CLK_TCK")
+                    number = int(front.split()[0])
+                    if number not in seen and is_slowed(number == run.pid):
+                        os.setpriority(os.PRIO_PROCESS, number, 19)
+                    seen[number] = int(rest.split()[11]) / os.sysconf("SC_CLK_TCK")
             time.sleep(0.005)
     if run.returncode:
         raise RuntimeError(f"{words}: {run.returncode}")
@@ -189,6 +206,9 @@ def made_once(program, folder):
             if are_even:
                 break
         yield f"resources: {words}, each thread makes its share", are_even or shares, True
+    # If the other of two threads is slowed, the one that sends the reports makes nearly all, and once.
+    by_one, by_two = (min(sum(thread_seconds(program, f"run middle.gr many-ahead.ss --at-once {at_once}", folder, lambda is_first: not is_first)) for _ in range(3)) for at_once in (1, 2))
+    yield grows("resources: run middle.gr many-ahead.ss --at-once 2, made by the one that sends them beside one", by_one, by_two, 1.5)
 
 
 def near_problems(program, folder):
@@ -246,7 +266,7 @@ def peak(program, words, folder):
 
 
 def layouts(program, folder):
-    """A grid numbered at random is laid out anew for sixteen problems, and not for one; numbered row by row it never is.
+    """A grid numbered at random is laid out anew for sixteen problems, and not for one, nor for few nodes; numbered row by row it never is.
     The copy shows in the memory."""
     side, rng = 400, random.Random(9)
     numbers = list(range(side * side))
@@ -264,6 +284,10 @@ def layouts(program, folder):
     for at_once, is_laid_out in ((5, True), (6, False), (16, False)):
         rows, scattered = (min(peak(program, f"run {name}.gr sixteen.ss --at-once {at_once}", folder) for _ in range(3)) for name in ("rows", "random"))
         yield f"resources: a grid numbered at random, sixteen problems, {at_once} at once: laid out", (scattered > 1.25 * rows) == is_laid_out or (rows, scattered), True
+    # For two nodes of each report none is made.
+    write(folder, "two.ss", ["p aux sp ss 2\n", "s 1\n", "s 2\n"])
+    rows, scattered = (min(peak(program, f"run {name}.gr sixteen.ss --at-once 1 --nodes two.ss", folder) for _ in range(3)) for name in ("rows", "random"))
+    yield "resources: a grid numbered at random, two nodes of sixteen problems: not laid out", scattered <= 1.25 * rows or (rows, scattered), True
 
 
 def preparations(program, folder):
