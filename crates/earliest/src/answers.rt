@@ -107,18 +107,31 @@ pub(crate) fn answer_watched<
         (W.seen out.old) (W.seen out.new) result }
 {
     let files = read_run_by(alloc, rt, gr, ss, &mut others.tp, options.direction)?;
-    let extras = read_extras(
+    let extras = match read_extras(
         alloc,
         &mut others.times,
         &mut others.nodes,
         files.sources.len() as u32,
         files.road.network.nodes(),
-    )?;
+    ) {
+        Ok(extras) => extras,
+        Err(fault) => {
+            drop(files);
+            return Err(AnswerFault::from(fault));
+        }
+    };
     let schedule = schedule_by(options, &extras);
     if !departures_fit(files.sources.len(), schedule) {
+        drop((files, extras));
         return Err(AnswerFault::BadOption);
     }
-    let queries = run_queries(alloc, &files.sources, options.joint, schedule)?;
+    let queries = match run_queries(alloc, &files.sources, options.joint, schedule) {
+        Ok(queries) => queries,
+        Err(refused) => {
+            drop((files, extras));
+            return Err(AnswerFault::from(refused));
+        }
+    };
     let shown = shown_by(options, &extras);
     // A search for a few nodes reads less of the network than making a layout does.
     let layout = match few_chosen(files.road.network.nodes(), shown) {
@@ -130,7 +143,9 @@ pub(crate) fn answer_watched<
         layout: layout.as_ref(),
     };
     let watched = Watched { shown, aids, watch };
-    report_all(alloc, rt, &files.road, &queries, options, watched, out)
+    let answered = report_all(alloc, rt, &files.road, &queries, options, watched, out);
+    drop((files, extras, queries, layout));
+    answered
 }
 
 /// Answers pairs: like `answer`, with the earliest arrival at the target of each pair alone or, turned round,
@@ -179,18 +194,31 @@ pub(crate) fn pairs_watched<
         (W.seen out.old) (W.seen out.new) result }
 {
     let files = read_pairs(alloc, rt, gr, p2p, &mut others.tp, options.direction)?;
-    let extras = read_extras(
+    let extras = match read_extras(
         alloc,
         &mut others.times,
         &mut others.nodes,
         files.pairs.len() as u32,
         files.road.network.nodes(),
-    )?;
+    ) {
+        Ok(extras) => extras,
+        Err(fault) => {
+            drop(files);
+            return Err(AnswerFault::from(fault));
+        }
+    };
     let schedule = schedule_by(options, &extras);
     if !departures_fit(files.pairs.len(), schedule) {
+        drop((files, extras));
         return Err(AnswerFault::BadOption);
     }
-    let queries = pair_queries(alloc, &files.pairs, schedule)?;
+    let queries = match pair_queries(alloc, &files.pairs, schedule) {
+        Ok(queries) => queries,
+        Err(refused) => {
+            drop((files, extras));
+            return Err(AnswerFault::from(refused));
+        }
+    };
     let shown = shown_by(options, &extras);
     let prepared = prepared_for(alloc, rt, &files.road, &queries, options, watch);
     let aids = Aids {
@@ -198,5 +226,7 @@ pub(crate) fn pairs_watched<
         layout: None,
     };
     let watched = Watched { shown, aids, watch };
-    report_all(alloc, rt, &files.road, &queries, options, watched, out)
+    let answered = report_all(alloc, rt, &files.road, &queries, options, watched, out);
+    drop((files, extras, queries, prepared));
+    answered
 }

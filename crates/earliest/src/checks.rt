@@ -121,17 +121,23 @@ pub(crate) fn check_watched<
         (reading R.seen report.old report.new) result }
 {
     let files = read_run_by(alloc, rt, gr, ss, &mut others.tp, options.direction)?;
-    let extras = read_extras(
+    let extras = match read_extras(
         alloc,
         &mut others.times,
         &mut others.nodes,
         files.sources.len() as u32,
         files.road.network.nodes(),
-    )?;
+    ) {
+        Ok(extras) => extras,
+        Err(fault) => {
+            drop(files);
+            return Err(AnswerFault::from(fault));
+        }
+    };
     let schedule = schedule_by(options, &extras);
     if !departures_fit(files.sources.len(), schedule) {
         // The report's own fault comes before.
-        let _ = judge(
+        let judged = judge(
             alloc,
             rt,
             &files.road,
@@ -139,11 +145,19 @@ pub(crate) fn check_watched<
             options.direction,
             report,
             &mut Silent,
-        )?;
+        );
+        drop((files, extras));
+        let _ = judged?;
         return Err(AnswerFault::BadOption);
     }
-    let queries = run_queries(alloc, &files.sources, options.joint, schedule)?;
-    let verdict = judge(
+    let queries = match run_queries(alloc, &files.sources, options.joint, schedule) {
+        Ok(queries) => queries,
+        Err(refused) => {
+            drop((files, extras));
+            return Err(AnswerFault::from(refused));
+        }
+    };
+    let judged = judge(
         alloc,
         rt,
         &files.road,
@@ -151,6 +165,8 @@ pub(crate) fn check_watched<
         options.direction,
         report,
         watch,
-    )?;
+    );
+    drop((files, extras, queries));
+    let verdict = judged?;
     Ok(verdict)
 }

@@ -155,7 +155,13 @@ fn report_each<'a, H: Threads + Sync, W: ByteOut, V: Watch>(
     let mut done = 0;
     for query in queries {
         reports.found = ahead.take(alloc, rt, road, queries, options, done);
-        reports.report(alloc, rt, road, query, options, shown, out)?;
+        match reports.report(alloc, rt, road, query, options, shown, out) {
+            Ok(()) => {}
+            Err(fault) => {
+                drop(reports);
+                return Err(fault);
+            }
+        }
         done += 1;
         watch.did(done, queries.len());
     }
@@ -228,7 +234,13 @@ pub(crate) fn report_all<H: Threads + Sync, W: ByteOut, V: Watch>(
     let watched = Watched { shown, aids, watch };
     let reports = report_problems(alloc, rt, road, queries, options, watched, out)?;
     match write_totals(&reports, options.stats, out) {
-        Ok(()) => Ok(reports.totals),
-        Err(fault) => Err(fault),
+        Ok(()) => {}
+        Err(fault) => {
+            drop(reports);
+            return Err(fault);
+        }
     }
+    let totals = reports.totals;
+    drop(reports);
+    Ok(totals)
 }

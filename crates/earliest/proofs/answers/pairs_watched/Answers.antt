@@ -27,9 +27,8 @@ returns-in_err-files g c =
     let others = optional_files c.read_pairs.new.tp c.args.others.now.times c.args.others.now.nodes in
     rw (p.1, p.2) (record { answered = tt; failed = (files_failed (pair_asks o) (files_of gr starts g.T.Device.seen c.args.others.now others) _ _ (first_there g.T.Device.seen (pair_asks o) gr starts c.args.others.now others _ c.in_err-files.ensures.fault refl refl)) })
 
-pub returns-in_err-extras : goal.returns-in_err-extras
-returns-in_err-extras g c =
-    let p = err_from_is_err_and c.from_residual-in_err-extras.result c.from_residual-in_err-extras.ensures.1 in
+pub returns-in-Err : goal.returns-in-Err
+returns-in-Err g c =
     let o = c.args.options.now in
     let given = c.in_ok-files.ensures.given in
     let found = c.in_ok-files.files in
@@ -40,13 +39,13 @@ returns-in_err-extras g c =
     let road = road_there (pair_asks o) g.T.Device.seen gr starts c.args.others.now others given.0 found.pairs.items given.1 c.in_ok-files.ensures.gr_borne c.in_ok-files.ensures.p2p_borne c.in_ok-files.ensures.tp_borne in
     let many : c.len.result ≡ length found.pairs.items = omega (arith, c.len.ensures, found.pairs.ok.0) in
     let size : c.nodes.result ≡ given.0.graph.nodes = c.nodes.ensures.nodes ∙ ap (λ (r : Roads). r.nodes) given.2.network in
-    rw (p.1, p.2) (record { answered = tt; failed = (files_failed (pair_asks o) files _ _ (in_extras given.0 found.pairs.items road (extra_fault_for _ (length found.pairs.items) _ given.0.graph.nodes files.extras _ many size c.in_err-extras.ensures.fault))) })
+    rw c.from.ensures (record { answered = tt; failed = (files_failed (pair_asks o) files _ _ (in_extras given.0 found.pairs.items road (extra_fault_for _ (length found.pairs.items) _ given.0.graph.nodes files.extras _ many size c.in-Err.ensures.fault))) })
 
 pub departures_fit-requires-clause-times : goal.departures_fit-requires-clause-times
 departures_fit-requires-clause-times g c =
     let o = c.args.options.now in
     let found = c.in_ok-files.files in
-    schedule_has o c.schedule_by-schedule.result _ (extras_in c.in_ok-extras.extras).times _ _ c.schedule_by-schedule.ensures.plan c.in_ok-extras.ensures.extras.times _ (omega (arith, c.len.ensures, c.len-2.ensures))
+    schedule_has o c.schedule_by-schedule.result _ (extras_in c.in-Ok.extras).times _ _ c.schedule_by-schedule.ensures.plan c.in-Ok.ensures.extras.times _ (omega (arith, c.len.ensures, c.len-2.ensures))
 
 pub pair_queries-requires-clause-pairs : goal.pair_queries-requires-clause-pairs
 pair_queries-requires-clause-pairs g c =
@@ -57,7 +56,7 @@ pair_queries-requires-clause-pairs g c =
 pub pair_queries-requires-clause-times : goal.pair_queries-requires-clause-times
 pair_queries-requires-clause-times g c =
     let o = c.args.options.now in
-    schedule_has o c.schedule_by-schedule.result _ (extras_in c.in_ok-extras.extras).times _ _ c.schedule_by-schedule.ensures.plan c.in_ok-extras.ensures.extras.times _ (omega (arith, c.len.ensures, c.deref.ensures.len))
+    schedule_has o c.schedule_by-schedule.result _ (extras_in c.in-Ok.extras).times _ _ c.schedule_by-schedule.ensures.plan c.in-Ok.ensures.extras.times _ (omega (arith, c.len.ensures, c.deref.ensures.len))
 
 pub pair_queries-requires-clause-within : goal.pair_queries-requires-clause-within
 pair_queries-requires-clause-within g c =
@@ -71,13 +70,13 @@ prepared_for-prepared-requires g c =
     let found = c.in_ok-files.files in
     let gr = reading g.G.Device.seen c.args.gr.now c.read_pairs.new.gr in
     let starts = reading g.P.Device.seen c.args.p2p.now c.read_pairs.new.p2p in
-    let extras = extras_in c.in_ok-extras.extras in
+    let extras = extras_in c.in-Ok.extras in
     let plan = c.schedule_by-schedule.ensures.plan in
     let fits : IsTrue c.departures_fit.result = search rules in
     let within : AreWithin (plan_by o extras.times) (length found.pairs.items) = subst (λ (p : Plan). AreWithin p (length found.pairs.items)) plan (λ i inside. c.departures_fit.ensures.0 fits i (omega (arith, inside, c.len-2.ensures, found.pairs.ok.0))) in
     let nodes = pairs_are_nodes given.0.graph.nodes _ found.pairs.items given.1.starts_denoted in
     let whole = given_is_sound DenotesPairs _ _ _ given.0 found.pairs.items given.1 in
-    let queries = c.deref-2.ensures.value ∙ c.in_ok-queries.ensures ∙ ap (λ (p : Plan). pair_problems p 0 c.deref.result.now) plan ∙ ap (λ (xs : List (ℕ × ℕ)). pair_problems (plan_by o extras.times) 0 xs) c.deref.ensures.value in
+    let queries = c.deref-2.ensures.value ∙ c.in-Ok-pair_queries.ensures ∙ ap (λ (p : Plan). pair_problems p 0 c.deref.result.now) plan ∙ ap (λ (xs : List (ℕ × ℕ)). pair_problems (plan_by o extras.times) 0 xs) c.deref.ensures.value in
     record {
       can = record {
         problems = subst (AreProblems found.road) (sym queries) (pairs_are_posed given.0 found.road o.direction given.2 whole (plan_by o extras.times) found.pairs.items nodes.0 within);
@@ -85,20 +84,20 @@ prepared_for-prepared-requires g c =
       };
     }
 
-pub report_all-requires-clause-run : goal.report_all-requires-clause-run
-report_all-requires-clause-run g c κs lent =
+pub report_all-answered-requires-clause-run : goal.report_all-answered-requires-clause-run
+report_all-answered-requires-clause-run g c κs lent =
     let o = c.args.options.now in
     let given = c.in_ok-files.ensures.given in
     let found = c.in_ok-files.files in
     let gr = reading g.G.Device.seen c.args.gr.now c.read_pairs.new.gr in
     let starts = reading g.P.Device.seen c.args.p2p.now c.read_pairs.new.p2p in
-    let extras = extras_in c.in_ok-extras.extras in
+    let extras = extras_in c.in-Ok.extras in
     let plan = c.schedule_by-schedule.ensures.plan in
     let fits : IsTrue c.departures_fit.result = search rules in
     let within : AreWithin (plan_by o extras.times) (length found.pairs.items) = subst (λ (p : Plan). AreWithin p (length found.pairs.items)) plan (λ i inside. c.departures_fit.ensures.0 fits i (omega (arith, inside, c.len-2.ensures, found.pairs.ok.0))) in
     let nodes = pairs_are_nodes given.0.graph.nodes _ found.pairs.items given.1.starts_denoted in
     let whole = given_is_sound DenotesPairs _ _ _ given.0 found.pairs.items given.1 in
-    let queries = c.deref-3.ensures.value ∙ c.in_ok-queries.ensures ∙ ap (λ (p : Plan). pair_problems p 0 c.deref.result.now) plan ∙ ap (λ (xs : List (ℕ × ℕ)). pair_problems (plan_by o extras.times) 0 xs) c.deref.ensures.value in
+    let queries = c.deref-3.ensures.value ∙ c.in-Ok-pair_queries.ensures ∙ ap (λ (p : Plan). pair_problems p 0 c.deref.result.now) plan ∙ ap (λ (xs : List (ℕ × ℕ)). pair_problems (plan_by o extras.times) 0 xs) c.deref.ensures.value in
     let shows = c.shown_by-shown.ensures in
     let shape = shape_of c.shown_by-shown.result in
     let chosen = ap (λ (s : Shape). s.chosen) c.shown_by-shown.ensures in
@@ -107,7 +106,7 @@ report_all-requires-clause-run g c κs lent =
         problems = subst (AreProblems found.road) (sym queries) (pairs_are_posed given.0 found.road o.direction given.2 whole (plan_by o extras.times) found.pairs.items nodes.0 within);
         few = subst (λ qs. length qs ≤ 1000000) (sym queries) (few_pairs given.0 found.road o.direction given.2 whole (plan_by o extras.times) found.pairs.items nodes.1);
         few_nodes = few_nodes given.0 found.road o.direction given.2 whole;
-        shown = shown_for found.road.network shape _ _ _ _ c.nodes.ensures.nodes chosen c.in_ok-extras.ensures.extras.nodes;
+        shown = shown_for found.road.network shape _ _ _ _ c.nodes.ensures.nodes chosen c.in-Ok.ensures.extras.nodes;
       };
       options_are = c.requires;
       asked = shows ∙ ap (λ (shape : Shape). shape_by c.args.options.now shape.chosen) (sym shows);
@@ -126,21 +125,21 @@ returns g c =
     let road = road_there (pair_asks o) g.T.Device.seen gr starts c.args.others.now others given.0 found.pairs.items given.1 c.in_ok-files.ensures.gr_borne c.in_ok-files.ensures.p2p_borne c.in_ok-files.ensures.tp_borne in
     let many : c.len.result ≡ length found.pairs.items = omega (arith, c.len.ensures, found.pairs.ok.0) in
     let size : c.nodes.result ≡ given.0.graph.nodes = c.nodes.ensures.nodes ∙ ap (λ (r : Roads). r.nodes) given.2.network in
-    let extras = extras_in c.in_ok-extras.extras in
-    let extra = extras_for _ (length found.pairs.items) _ given.0.graph.nodes files.extras extras many size c.in_ok-extras.ensures.extras in
+    let extras = extras_in c.in-Ok.extras in
+    let extra = extras_for _ (length found.pairs.items) _ given.0.graph.nodes files.extras extras many size c.in-Ok.ensures.extras in
     let sound : AreSound (pair_asks o) files given.0 found.pairs.items extras = record { road = road; extra = extra } in
     let plan = c.schedule_by-schedule.ensures.plan in
     let fits : IsTrue c.departures_fit.result = search rules in
     let within : AreWithin (plan_by o extras.times) (length found.pairs.items) = subst (λ (p : Plan). AreWithin p (length found.pairs.items)) plan (λ i inside. c.departures_fit.ensures.0 fits i (omega (arith, inside, c.len-2.ensures, found.pairs.ok.0))) in
     let nodes = pairs_are_nodes given.0.graph.nodes _ found.pairs.items given.1.starts_denoted in
     let whole = given_is_sound DenotesPairs _ _ _ given.0 found.pairs.items given.1 in
-    let queries = c.deref-3.ensures.value ∙ c.in_ok-queries.ensures ∙ ap (λ (p : Plan). pair_problems p 0 c.deref.result.now) plan ∙ ap (λ (xs : List (ℕ × ℕ)). pair_problems (plan_by o extras.times) 0 xs) c.deref.ensures.value in
+    let queries = c.deref-3.ensures.value ∙ c.in-Ok-pair_queries.ensures ∙ ap (λ (p : Plan). pair_problems p 0 c.deref.result.now) plan ∙ ap (λ (xs : List (ℕ × ℕ)). pair_problems (plan_by o extras.times) 0 xs) c.deref.ensures.value in
     let first = g.W.Device.seen c.args.out.now in
-    let now = g.W.Device.seen c.report_all.new.out in
+    let now = g.W.Device.seen c.report_all-answered.new.out in
     let chosen = ap (λ (s : Shape). s.chosen) c.shown_by-shown.ensures in
     record {
-      answered = answered (pair_asks o) files given.0 found.pairs.items extras sound within found.road given.2 _ chosen c.deref-3.result.now queries first now c.report_all.result c.report_all.ensures.ok;
-      failed = failed (pair_asks o) files given.0 found.pairs.items extras sound within found.road given.2 _ chosen c.deref-3.result.now queries (cuts_short o) first now c.report_all.result c.report_all.ensures.err;
+      answered = answered (pair_asks o) files given.0 found.pairs.items extras sound within found.road given.2 _ chosen c.deref-3.result.now queries first now c.report_all-answered.result c.report_all-answered.ensures.ok;
+      failed = failed (pair_asks o) files given.0 found.pairs.items extras sound within found.road given.2 _ chosen c.deref-3.result.now queries (cuts_short o) first now c.report_all-answered.result c.report_all-answered.ensures.err;
     }
 
 pub returns-then-not-departures_fit : goal.returns-then-not-departures_fit
@@ -155,8 +154,8 @@ returns-then-not-departures_fit g c =
     let road = road_there (pair_asks o) g.T.Device.seen gr starts c.args.others.now others given.0 found.pairs.items given.1 c.in_ok-files.ensures.gr_borne c.in_ok-files.ensures.p2p_borne c.in_ok-files.ensures.tp_borne in
     let many : c.len.result ≡ length found.pairs.items = omega (arith, c.len.ensures, found.pairs.ok.0) in
     let size : c.nodes.result ≡ given.0.graph.nodes = c.nodes.ensures.nodes ∙ ap (λ (r : Roads). r.nodes) given.2.network in
-    let extras = extras_in c.in_ok-extras.extras in
-    let extra = extras_for _ (length found.pairs.items) _ given.0.graph.nodes files.extras extras many size c.in_ok-extras.ensures.extras in
+    let extras = extras_in c.in-Ok.extras in
+    let extra = extras_for _ (length found.pairs.items) _ given.0.graph.nodes files.extras extras many size c.in-Ok.ensures.extras in
     let sound : AreSound (pair_asks o) files given.0 found.pairs.items extras = record { road = road; extra = extra } in
     let plan = c.schedule_by-schedule.ensures.plan in
     let late : AreWithin (plan_by o extras.times) (length found.pairs.items) → ⊥ =
@@ -164,9 +163,8 @@ returns-then-not-departures_fit g c =
     in record { answered = tt; failed = (record { given = given.0; found = found.pairs.items; extras = extras; sound = sound; late = late }, refl) }
 
 -- all files were read
-pub returns-in_err-queries : goal.returns-in_err-queries
-returns-in_err-queries g c =
-    let p = err_from_is_err_and c.from_residual-in_err-queries.result c.from_residual-in_err-queries.ensures.1 in
+pub returns-in-Err-pair_queries : goal.returns-in-Err-pair_queries
+returns-in-Err-pair_queries g c =
     let o = c.args.options.now in
     let given = c.in_ok-files.ensures.given in
     let found = c.in_ok-files.files in
@@ -177,7 +175,7 @@ returns-in_err-queries g c =
     let road = road_there (pair_asks o) g.T.Device.seen gr starts c.args.others.now others given.0 found.pairs.items given.1 c.in_ok-files.ensures.gr_borne c.in_ok-files.ensures.p2p_borne c.in_ok-files.ensures.tp_borne in
     let many : c.len.result ≡ length found.pairs.items = omega (arith, c.len.ensures, found.pairs.ok.0) in
     let size : c.nodes.result ≡ given.0.graph.nodes = c.nodes.ensures.nodes ∙ ap (λ (r : Roads). r.nodes) given.2.network in
-    let extras = extras_in c.in_ok-extras.extras in
-    let extra = extras_for _ (length found.pairs.items) _ given.0.graph.nodes files.extras extras many size c.in_ok-extras.ensures.extras in
+    let extras = extras_in c.in-Ok.extras in
+    let extra = extras_for _ (length found.pairs.items) _ given.0.graph.nodes files.extras extras many size c.in-Ok.ensures.extras in
     let sound : AreSound (pair_asks o) files given.0 found.pairs.items extras = record { road = road; extra = extra } in
-    rw (p.1, p.2) (record { answered = tt; failed = (inl (refl, refl, inr (all_read (pair_asks o) files given.0 found.pairs.items extras sound))) })
+    rw c.from-in-Err-pair_queries.ensures (record { answered = tt; failed = (inl (refl, refl, inr (all_read (pair_asks o) files given.0 found.pairs.items extras sound))) })

@@ -29,9 +29,8 @@ returns-in_err-files g c =
     let report = reading g.R.Device.seen c.args.report.now c.args.report.now in
     rw (p.1, p.2) (record { judged = tt; unjudged = (unread o (files_of gr ss g.T.Device.seen c.args.others.now others) report _ (in_run (first_there g.T.Device.seen (run_asks o) gr ss c.args.others.now others _ c.in_err-files.ensures.fault refl refl))) })
 
-pub returns-in_err-extras : goal.returns-in_err-extras
-returns-in_err-extras g c =
-    let p = err_from_is_err_and c.from_residual-in_err-extras.result c.from_residual-in_err-extras.ensures.1 in
+pub returns-in-Err : goal.returns-in-Err
+returns-in-Err g c =
     let o = c.args.options.now in
     let given = c.in_ok-files.ensures.given in
     let found = c.in_ok-files.files in
@@ -43,17 +42,17 @@ returns-in_err-extras g c =
     let many : c.len.result ≡ length found.sources.items = omega (arith, c.len.ensures, found.sources.ok.0) in
     let size : c.nodes.result ≡ given.0.graph.nodes = c.nodes.ensures.nodes ∙ ap (λ (r : Roads). r.nodes) given.2.network in
     let report = reading g.R.Device.seen c.args.report.now c.args.report.now in
-    rw (p.1, p.2) (record { judged = tt; unjudged = (unread o files report _ (in_run (in_extras given.0 found.sources.items road (extra_fault_for _ (length found.sources.items) _ given.0.graph.nodes files.extras _ many size c.in_err-extras.ensures.fault)))) })
+    rw c.from.ensures (record { judged = tt; unjudged = (unread o files report _ (in_run (in_extras given.0 found.sources.items road (extra_fault_for _ (length found.sources.items) _ given.0.graph.nodes files.extras _ many size c.in-Err.ensures.fault)))) })
 
 pub departures_fit-requires-clause-times : goal.departures_fit-requires-clause-times
 departures_fit-requires-clause-times g c =
     let o = c.args.options.now in
-    schedule_has o c.schedule_by-schedule.result _ (extras_in c.in_ok-extras.extras).times _ _ c.schedule_by-schedule.ensures.plan c.in_ok-extras.ensures.extras.times _ (omega (arith, c.len.ensures, c.len-2.ensures))
+    schedule_has o c.schedule_by-schedule.result _ (extras_in c.in-Ok.extras).times _ _ c.schedule_by-schedule.ensures.plan c.in-Ok.ensures.extras.times _ (omega (arith, c.len.ensures, c.len-2.ensures))
 
 -- a time is beyond the horizon
-pub returns-in_err-judge : goal.returns-in_err-judge
-returns-in_err-judge g c =
-    let p = err_from_is_err_and c.from_residual-in_err-judge.result c.from_residual-in_err-judge.ensures.1 in
+pub returns-in_err-judged : goal.returns-in_err-judged
+returns-in_err-judged g c =
+    let p = err_from_is_err_and c.from_residual-in_err-judged.result c.from_residual-in_err-judged.ensures.1 in
     let o = c.args.options.now in
     let given = c.in_ok-files.ensures.given in
     let found = c.in_ok-files.files in
@@ -64,11 +63,11 @@ returns-in_err-judge g c =
     let road = road_there (run_asks o) g.T.Device.seen gr ss c.args.others.now others given.0 found.sources.items given.1 c.in_ok-files.ensures.gr_borne c.in_ok-files.ensures.ss_borne c.in_ok-files.ensures.tp_borne in
     let many : c.len.result ≡ length found.sources.items = omega (arith, c.len.ensures, found.sources.ok.0) in
     let size : c.nodes.result ≡ given.0.graph.nodes = c.nodes.ensures.nodes ∙ ap (λ (r : Roads). r.nodes) given.2.network in
-    let extras = extras_in c.in_ok-extras.extras in
-    let extra = extras_for _ (length found.sources.items) _ given.0.graph.nodes files.extras extras many size c.in_ok-extras.ensures.extras in
+    let extras = extras_in c.in-Ok.extras in
+    let extra = extras_for _ (length found.sources.items) _ given.0.graph.nodes files.extras extras many size c.in-Ok.ensures.extras in
     let sound : AreSound (run_asks o) files given.0 found.sources.items extras = record { road = road; extra = extra } in
-    let report = reading g.R.Device.seen c.args.report.now c.judge.new.report in
-    rw (p.1, p.2) (record { judged = tt; unjudged = (unread o files report _ (in_report (given.0, found.sources.items, extras, sound) c.in_err-judge.ensures)) })
+    let report = reading g.R.Device.seen c.args.report.now c.judge-judged.new.report in
+    rw (p.1, p.2) (record { judged = tt; unjudged = (unread o files report _ (in_report (given.0, found.sources.items, extras, sound) c.in_err-judged.ensures)) })
 
 pub returns-then-not-departures_fit : goal.returns-then-not-departures_fit
 returns-then-not-departures_fit g c =
@@ -82,13 +81,13 @@ returns-then-not-departures_fit g c =
     let road = road_there (run_asks o) g.T.Device.seen gr ss c.args.others.now others given.0 found.sources.items given.1 c.in_ok-files.ensures.gr_borne c.in_ok-files.ensures.ss_borne c.in_ok-files.ensures.tp_borne in
     let many : c.len.result ≡ length found.sources.items = omega (arith, c.len.ensures, found.sources.ok.0) in
     let size : c.nodes.result ≡ given.0.graph.nodes = c.nodes.ensures.nodes ∙ ap (λ (r : Roads). r.nodes) given.2.network in
-    let extras = extras_in c.in_ok-extras.extras in
-    let extra = extras_for _ (length found.sources.items) _ given.0.graph.nodes files.extras extras many size c.in_ok-extras.ensures.extras in
+    let extras = extras_in c.in-Ok.extras in
+    let extra = extras_for _ (length found.sources.items) _ given.0.graph.nodes files.extras extras many size c.in-Ok.ensures.extras in
     let sound : AreSound (run_asks o) files given.0 found.sources.items extras = record { road = road; extra = extra } in
     let plan = c.schedule_by-schedule.ensures.plan in
     let late : AreWithin (plan_by o extras.times) (length found.sources.items) → ⊥ =
     λ within. let fits : IsTrue c.departures_fit.result = c.departures_fit.ensures.1 (λ i inside. subst (λ (p : Plan). AreWithin p (length found.sources.items)) (sym plan) within i (omega (arith, inside, c.len-2.ensures, found.sources.ok.0))) in search rules in
-    let has = c.in_ok-judge.ensures in
+    let has = c.in_ok-judged.ensures in
     record { judged = tt; unjudged = (record { given = given.0; found = found.sources.items; extras = extras; sound = sound; late = late }, (has.0, has.1)) }
 
 pub run_queries-requires-clause-nodes : goal.run_queries-requires-clause-nodes
@@ -100,16 +99,15 @@ run_queries-requires-clause-nodes g c =
 pub run_queries-requires-clause-times : goal.run_queries-requires-clause-times
 run_queries-requires-clause-times g c =
     let o = c.args.options.now in
-    schedule_has o c.schedule_by-schedule.result _ (extras_in c.in_ok-extras.extras).times _ _ c.schedule_by-schedule.ensures.plan c.in_ok-extras.ensures.extras.times _ (omega (arith, c.len.ensures, c.deref.ensures.len))
+    schedule_has o c.schedule_by-schedule.result _ (extras_in c.in-Ok.extras).times _ _ c.schedule_by-schedule.ensures.plan c.in-Ok.ensures.extras.times _ (omega (arith, c.len.ensures, c.deref.ensures.len))
 
 pub run_queries-requires-clause-within : goal.run_queries-requires-clause-within
 run_queries-requires-clause-within g c =
     let fits : IsTrue c.departures_fit.result = search rules in
     λ i inside. c.departures_fit.ensures.0 fits i (omega (arith, inside, c.deref.ensures.len, c.len-2.ensures))
 
-pub returns-in_err-queries : goal.returns-in_err-queries
-returns-in_err-queries g c =
-    let p = err_from_is_err_and c.from_residual-in_err-queries.result c.from_residual-in_err-queries.ensures.1 in
+pub returns-in-Err-run_queries : goal.returns-in-Err-run_queries
+returns-in-Err-run_queries g c =
     let o = c.args.options.now in
     let given = c.in_ok-files.ensures.given in
     let found = c.in_ok-files.files in
@@ -120,25 +118,25 @@ returns-in_err-queries g c =
     let road = road_there (run_asks o) g.T.Device.seen gr ss c.args.others.now others given.0 found.sources.items given.1 c.in_ok-files.ensures.gr_borne c.in_ok-files.ensures.ss_borne c.in_ok-files.ensures.tp_borne in
     let many : c.len.result ≡ length found.sources.items = omega (arith, c.len.ensures, found.sources.ok.0) in
     let size : c.nodes.result ≡ given.0.graph.nodes = c.nodes.ensures.nodes ∙ ap (λ (r : Roads). r.nodes) given.2.network in
-    let extras = extras_in c.in_ok-extras.extras in
-    let extra = extras_for _ (length found.sources.items) _ given.0.graph.nodes files.extras extras many size c.in_ok-extras.ensures.extras in
+    let extras = extras_in c.in-Ok.extras in
+    let extra = extras_for _ (length found.sources.items) _ given.0.graph.nodes files.extras extras many size c.in-Ok.ensures.extras in
     let sound : AreSound (run_asks o) files given.0 found.sources.items extras = record { road = road; extra = extra } in
-    rw (p.1, p.2) (record { judged = tt; unjudged = (refl, inr (all_read (run_asks o) files given.0 found.sources.items extras sound, (refl, omega arith))) })
+    rw c.from-in-Err-run_queries.ensures (record { judged = tt; unjudged = (refl, inr (all_read (run_asks o) files given.0 found.sources.items extras sound, (refl, omega arith))) })
 
-pub judge-requires-2-clause-checkable : goal.judge-requires-2-clause-checkable
-judge-requires-2-clause-checkable g c κs within_call =
+pub judge-judged-requires-2-clause-checkable : goal.judge-judged-requires-2-clause-checkable
+judge-judged-requires-2-clause-checkable g c κs within_call =
     let o = c.args.options.now in
     let given = c.in_ok-files.ensures.given in
     let found = c.in_ok-files.files in
     let gr = reading g.G.Device.seen c.args.gr.now c.read_run_by.new.gr in
     let ss = reading g.S.Device.seen c.args.ss.now c.read_run_by.new.ss in
-    let extras = extras_in c.in_ok-extras.extras in
+    let extras = extras_in c.in-Ok.extras in
     let plan = c.schedule_by-schedule.ensures.plan in
     let fits : IsTrue c.departures_fit.result = search rules in
     let within : AreWithin (plan_by o extras.times) (length found.sources.items) = subst (λ (p : Plan). AreWithin p (length found.sources.items)) plan (λ i inside. c.departures_fit.ensures.0 fits i (omega (arith, inside, c.len-2.ensures, found.sources.ok.0))) in
     let nodes = sources_are_nodes given.0.graph.nodes _ found.sources.items given.1.starts_denoted in
     let whole = given_is_sound DenotesSources _ _ _ given.0 found.sources.items given.1 in
-    let queries = c.deref-2.ensures.value ∙ c.in_ok-queries.ensures ∙ ap (λ (p : Plan). run_problems o.joint p c.deref.result.now) plan ∙ ap (λ (xs : List ℕ). run_problems o.joint (plan_by o extras.times) xs) c.deref.ensures.value in
+    let queries = c.deref-2.ensures.value ∙ c.in-Ok-run_queries.ensures ∙ ap (λ (p : Plan). run_problems o.joint p c.deref.result.now) plan ∙ ap (λ (xs : List ℕ). run_problems o.joint (plan_by o extras.times) xs) c.deref.ensures.value in
     each_asked found.road c.deref-2.result.now
     (subst (AreProblems found.road) (sym queries) (run_is_posed given.0 found.road o.direction given.2 whole (plan_by o extras.times) o.joint found.sources.items nodes within))
     (subst (All (λ (query : Asking). query.target ≡ None)) (sym queries) (none_aimed o.joint (plan_by o extras.times) found.sources.items))
@@ -156,10 +154,10 @@ returns-in_err-verdict g c =
     let road = road_there (run_asks o) g.T.Device.seen gr ss c.args.others.now others given.0 found.sources.items given.1 c.in_ok-files.ensures.gr_borne c.in_ok-files.ensures.ss_borne c.in_ok-files.ensures.tp_borne in
     let many : c.len.result ≡ length found.sources.items = omega (arith, c.len.ensures, found.sources.ok.0) in
     let size : c.nodes.result ≡ given.0.graph.nodes = c.nodes.ensures.nodes ∙ ap (λ (r : Roads). r.nodes) given.2.network in
-    let extras = extras_in c.in_ok-extras.extras in
-    let extra = extras_for _ (length found.sources.items) _ given.0.graph.nodes files.extras extras many size c.in_ok-extras.ensures.extras in
+    let extras = extras_in c.in-Ok.extras in
+    let extra = extras_for _ (length found.sources.items) _ given.0.graph.nodes files.extras extras many size c.in-Ok.ensures.extras in
     let sound : AreSound (run_asks o) files given.0 found.sources.items extras = record { road = road; extra = extra } in
-    let report = reading g.R.Device.seen c.args.report.now c.judge-2.new.report in
+    let report = reading g.R.Device.seen c.args.report.now c.judge-judged-2.new.report in
     rw (p.1, p.2) (record { judged = tt; unjudged = (unread o files report _ (in_report (given.0, found.sources.items, extras, sound) c.in_err-verdict.ensures)) })
 
 pub returns : goal.returns
@@ -174,16 +172,16 @@ returns g c =
     let road = road_there (run_asks o) g.T.Device.seen gr ss c.args.others.now others given.0 found.sources.items given.1 c.in_ok-files.ensures.gr_borne c.in_ok-files.ensures.ss_borne c.in_ok-files.ensures.tp_borne in
     let many : c.len.result ≡ length found.sources.items = omega (arith, c.len.ensures, found.sources.ok.0) in
     let size : c.nodes.result ≡ given.0.graph.nodes = c.nodes.ensures.nodes ∙ ap (λ (r : Roads). r.nodes) given.2.network in
-    let extras = extras_in c.in_ok-extras.extras in
-    let extra = extras_for _ (length found.sources.items) _ given.0.graph.nodes files.extras extras many size c.in_ok-extras.ensures.extras in
+    let extras = extras_in c.in-Ok.extras in
+    let extra = extras_for _ (length found.sources.items) _ given.0.graph.nodes files.extras extras many size c.in-Ok.ensures.extras in
     let sound : AreSound (run_asks o) files given.0 found.sources.items extras = record { road = road; extra = extra } in
     let plan = c.schedule_by-schedule.ensures.plan in
     let fits : IsTrue c.departures_fit.result = search rules in
     let within : AreWithin (plan_by o extras.times) (length found.sources.items) = subst (λ (p : Plan). AreWithin p (length found.sources.items)) plan (λ i inside. c.departures_fit.ensures.0 fits i (omega (arith, inside, c.len-2.ensures, found.sources.ok.0))) in
     let nodes = sources_are_nodes given.0.graph.nodes _ found.sources.items given.1.starts_denoted in
     let whole = given_is_sound DenotesSources _ _ _ given.0 found.sources.items given.1 in
-    let queries = c.deref-2.ensures.value ∙ c.in_ok-queries.ensures ∙ ap (λ (p : Plan). run_problems o.joint p c.deref.result.now) plan ∙ ap (λ (xs : List ℕ). run_problems o.joint (plan_by o extras.times) xs) c.deref.ensures.value in
-    let report = reading g.R.Device.seen c.args.report.now c.judge-2.new.report in
+    let queries = c.deref-2.ensures.value ∙ c.in-Ok-run_queries.ensures ∙ ap (λ (p : Plan). run_problems o.joint p c.deref.result.now) plan ∙ ap (λ (xs : List ℕ). run_problems o.joint (plan_by o extras.times) xs) c.deref.ensures.value in
+    let report = reading g.R.Device.seen c.args.report.now c.judge-judged-2.new.report in
     record {
       judged = judged o files report given.0 found.sources.items extras sound within found.road given.2 c.deref-2.result.now queries c.in_ok-verdict.verdict c.in_ok-verdict.ensures;
       unjudged = tt;

@@ -3,8 +3,8 @@ use Rattle.ea_report.specs.Asked.{chosen_by}
 use Rattle.earliest.proofs.Sending.{all_written, sent_in, totals_cut}
 use Rattle.earliest.proofs.reports.report_all.Goals as goal
 
-pub returns-in-Ok : goal.returns-in-Ok
-returns-in-Ok g c =
+pub returns : goal.returns
+returns g c =
     let first = g.W.Device.seen c.args.out.now in
     let now = g.W.Device.seen c.write_totals.new.out in
     let road = c.args.road.now in
@@ -15,8 +15,8 @@ returns-in-Ok g c =
       err = tt;
     }
 
-pub returns : goal.returns
-returns g c =
+pub returns-in-Err : goal.returns-in-Err
+returns-in-Err g c =
     let now = g.W.Device.seen c.write_totals.new.out in
     let first = g.W.Device.seen c.args.out.now in
     let road = c.args.road.now in

@@ -2,7 +2,6 @@ use Rattle.std.proofs.Common.{◌≡◌, ℕ, [], length, refl, sym, subst, ap, 
 use Rattle.std.specs.Prelude.{IfSome}
 use Rattle.std.proofs.lemmas.Option.{IfSome_then, slice_get_read}
 use Rattle.earliest.specs.Ahead.{IsFoundAt}
-use Rattle.std.proofs.lemmas.Result.{err_from_is_err_and}
 use Rattle.ea_load.specs.Posed.{IsPosed, times_on}
 use Rattle.earliest.specs.Counted.{AreTotals}
 use Rattle.earliest.specs.Workers.{settings_by}
@@ -14,14 +13,13 @@ use Rattle.ea_batch.specs.Sent.{AreSent}
 use Rattle.earliest.proofs.Sending.{cut_in_problem}
 use Rattle.earliest.proofs.reports.report_each.Goals as goal
 
-pub returns-in_err-report : goal.returns-in_err-report
-returns-in_err-report g c =
-    let p = err_from_is_err_and c.from_residual.result c.from_residual.ensures.1 in
+pub returns-in-Err : goal.returns-in-Err
+returns-in-Err g c =
     let first = g.W.Device.seen c.args.out.now in
     let shown = c.args.watched.shown in
     let road = c.args.road.now in
-    let cut = stops (shape_of shown) road.network (times_on road) c.args.queries.now c.loop-query.query-index c.query-item.result c.loop-query-test.true c.query-item.is first _ _ _ c.loop-query.invariant.sent _ c.in_err-report.ensures.sends in
-    rw (p.1, p.2) (cut_in_problem c.args.options.now (chosen_by shown) (shape_of shown) c.requires.run.asked road.network (times_on road) c.args.queries.now first _ _ cut)
+    let cut = stops (shape_of shown) road.network (times_on road) c.args.queries.now c.loop-query.query-index c.query-item.result c.loop-query-test.true c.query-item.is first _ _ _ c.loop-query.invariant.sent _ c.in-Err.ensures.sends in
+    cut_in_problem c.args.options.now (chosen_by shown) (shape_of shown) c.requires.run.asked road.network (times_on road) c.args.queries.now first _ _ cut
 
 pub loop-query-preserved : goal.loop-query-preserved
 loop-query-preserved g c =
@@ -32,11 +30,11 @@ loop-query-preserved g c =
     record {
       done = omega (arith, inv.done);
       fits = inv.fits;
-      sent = sent_next (shape_of c.args.watched.shown) c.args.road.now.network (times_on c.args.road.now) c.args.queries.now i c.query-item.result c.loop-query-test.true c.query-item.is first _ now _ c.report.new.self.progress.written inv.fits inv.sent c.in_ok-report.ensures.sends.sent;
-      bound = omega (arith, c.in_ok-report.ensures.sends.bound, inv.bound);
-      counted = λ asked. let more = c.in_ok-report.ensures.adds.counted asked in totals_next (settings_by c.args.options.now) c.args.queries.now i c.query-item.result c.loop-query-test.true c.query-item.is _ _ (inv.counted asked) more.0 more.1 more.2;
-      small = c.in_ok-report.ensures.adds.more.small i inv.small;
-      balanced = c.in_ok-report.ensures.adds.more.balanced;
+      sent = sent_next (shape_of c.args.watched.shown) c.args.road.now.network (times_on c.args.road.now) c.args.queries.now i c.query-item.result c.loop-query-test.true c.query-item.is first _ now _ c.report.new.self.progress.written inv.fits inv.sent c.in-Ok.ensures.sends.sent;
+      bound = omega (arith, c.in-Ok.ensures.sends.bound, inv.bound);
+      counted = λ asked. let more = c.in-Ok.ensures.adds.counted asked in totals_next (settings_by c.args.options.now) c.args.queries.now i c.query-item.result c.loop-query-test.true c.query-item.is _ _ (inv.counted asked) more.0 more.1 more.2;
+      small = c.in-Ok.ensures.adds.more.small i inv.small;
+      balanced = c.in-Ok.ensures.adds.more.balanced;
       aids = c.report.ensures.aided.aids;
       filled = c.take.ensures.filled;
       search = c.report.ensures.aided.search;
