@@ -20,9 +20,9 @@ pub(crate) struct Potential {
 }
 
 impl Potential {
-    /// Begins bounds to a target, from a source that is farther from it than the distance that was searched. Bounds that end at a small
-    /// multiple of that distance come first, since they look at few upward arcs; they serve if the source's bound is nearer. If nothing
-    /// was searched, bounds have no end.
+    /// Begins bounds to a target, from a source that is farther from it than the distance that was searched. If the network has large cuts,
+    /// bounds that end at a small multiple of that distance come first, since they look at few upward arcs; they serve if the source's bound
+    /// is nearer.
     pub(crate) fn begin(&mut self, prepared: &Prepared, source: u32, target: u32, searched: u64)
         requires room { IsRoomFor prepared.now self.old.bounds }
         requires source { (0 < source) × (source ≤ length prepared.now.ranks) }
@@ -31,7 +31,7 @@ impl Potential {
     {
         self.asked = 0;
         let mut far = searched.min(u64::from(u32::MAX)) as u32;
-        let looks = if searched > 0 { LOOKS } else { 0 };
+        let looks = if prepared.has_large_cuts() { LOOKS } else { 0 };
         for _ in 0..looks {
             far = far.saturating_mul(FARTHER);
             self.bounds.begin(prepared, target, far);

@@ -96,14 +96,17 @@ fn limits_of(network: &Network) -> Limits {
     }
 }
 
-/// How many nodes are near if the network has small cuts.
+/// How many nodes are near if the network has small cuts, and ranks are close.
 const LEAST_NEAR: u32 = 1_400;
+
+/// The same if ranks aren't close.
+const LEAST_APART: u32 = 350;
 
 /// How many upward arcs on a way up there are for each node that is near, if it has large ones.
 const ARCS_A_NODE: u64 = 64;
 
-/// In a network with small cuts, nodes that are near have ranks that differ by less than this many times `LEAST_NEAR`.
-const RANKS_A_NODE: u32 = 16;
+/// Ranks are close if they differ by less than this many times `LEAST_NEAR`.
+const RANKS_A_NODE: u32 = 64;
 
 /// How many nodes a search without bounds may scan in less than the time of a first bound.
 fn near_by(upward: &Upward) -> u32 {
@@ -272,16 +275,21 @@ impl Prepared {
     }
 
     /// How many nodes a search from a source may scan before it is led by bounds to a target: less than take the time of a first bound. In a
-    /// network with small cuts that time is short, and a target isn't near unless it is in the same small part, whose ranks are close.
+    /// network with small cuts that time is short, and a target is rarely near unless it is in the same small part, whose ranks are close.
     pub fn near(&self, source: u32, target: u32) -> u32 {
-        if LEAST_NEAR < self.near {
+        if self.has_large_cuts() {
             return self.near;
         }
         if self.rank(source).abs_diff(self.rank(target)) < LEAST_NEAR * RANKS_A_NODE {
             LEAST_NEAR
         } else {
-            0
+            LEAST_APART
         }
+    }
+
+    /// Whether a way up has many arcs, so that a first bound takes longer than a search of some thousand nodes.
+    pub fn has_large_cuts(&self) -> bool {
+        LEAST_NEAR < self.near
     }
 
     /// The rank of a node; 0 if there is no such node.
