@@ -134,7 +134,10 @@ def main():
     if status:
         return status
     os.makedirs(os.path.join(repository.ROOT, "bin"), exist_ok=True)
-    shutil.copy(os.path.join(libraries.program.folder, "out", PROGRAM), os.path.join(repository.ROOT, "bin", "earliest"))
+    # The program may be running; a renamed file replaces it all the same.
+    part = os.path.join(repository.ROOT, "bin", "earliest.part")
+    shutil.copy(os.path.join(libraries.program.folder, "out", PROGRAM), part)
+    os.replace(part, os.path.join(repository.ROOT, "bin", "earliest"))
     print(f"bin/earliest is built, after {time.monotonic() - begun:.0f} s")
     return 0
 
