@@ -196,7 +196,7 @@ class Answers(Case):
         wants = [[it.least([(source, departure)])[target - 1] for source, target, departure in zip(sources, targets, departures)] for it in (net, other)]
         first, second = (earliest.Road(it.gr(), it.tp()) for it in (net, other))
         self.refused(27, lambda: first.prepare(like=second))
-        self.refused(27, lambda: second.prepare(like=earliest.Road("p sp 2 1\na 1 2 3\n").prepare([2, 1])))
+        self.refused(27, lambda: second.prepare(like=earliest.Road(b"p sp 2 1\na 1 2 3\n").prepare([2, 1])))
         self.assertEqual((first.prepared, flat(first.pairs(sources, targets, departures))), (False, wants[0]))
         # Other arcs, too, are prepared over the order, and a road like itself is prepared once.
         self.assertIs(second.prepare(like=first.prepare()), second)

@@ -210,7 +210,12 @@ fn each_pair_is_told(rt: HostRuntime) {
 
 #[test]
 fn a_preparation_is_told_before_the_pairs(rt: HostRuntime) {
-    for (prepare, preparations) in [(Some(true), 1), (Some(false), 0), (None, 0)] {
+    for (workers, prepare, preparations) in [
+        (None, Some(true), 1),
+        (None, Some(false), 0),
+        (None, None, 0),
+        (Some(4), Some(true), 0),
+    ] {
         let command = Command::Pairs {
             gr: "g",
             p2p: "q",
@@ -219,7 +224,7 @@ fn a_preparation_is_told_before_the_pairs(rt: HostRuntime) {
             output: None,
             options: RunOptions {
                 prepare,
-                ..DEFAULTS
+                ..options_of(workers, None)
             },
         };
         let told = Told {
