@@ -106,7 +106,7 @@ const LEAST_APART: u32 = 350;
 const ARCS_A_NODE: u64 = 64;
 
 /// Ranks are close if they differ by less than this many times `LEAST_NEAR`.
-const RANKS_A_NODE: u32 = 64;
+const RANKS_A_NODE: u32 = 16;
 
 /// How many nodes a search without bounds may scan in less than the time of a first bound.
 fn near_by(upward: &Upward) -> u32 {

@@ -346,8 +346,8 @@ fn near_in(
 #[test]
 fn nodes_are_near_by_their_ranks_if_ways_up_are_short(rt: HostRuntime) -> Result<(), Fail> {
     let alloc = rt.alloc();
-    for (target, wanted) in [(2, 1_400), (89_600, 1_400), (89_601, 350), (90_000, 350)] {
-        let near = near_in(alloc, Shape::Path, 90_000, target).map_err(|_| "prepared")?;
+    for (target, wanted) in [(2, 1_400), (22_400, 1_400), (22_401, 350), (23_000, 350)] {
+        let near = near_in(alloc, Shape::Path, 23_000, target).map_err(|_| "prepared")?;
         assert_eq!(rt; near, Some(wanted));
     }
     Ok(())
