@@ -28,8 +28,8 @@ struct Times {
     told: Instant,
 }
 
-/// Writes to standard error how many problems are done: a line, at most one in a second. On a terminal each is written over the
-/// one before. A line that can't be written is left out.
+/// Writes to standard error how many problems are done: a line, at most one in a second, and one before a large network is
+/// prepared. On a terminal each is written over the one before. A line that can't be written is left out.
 #[derive(Drop)]
 pub struct Line<'a> {
     rt: &'a HostRuntime,

@@ -363,6 +363,37 @@ fn more_nodes_are_near_if_ways_up_are_long(rt: HostRuntime) -> Result<(), Fail> 
     Ok(())
 }
 
+/// Whether a preparation of a path gives back the order over which it was made, backwards or with two halves in turn.
+fn gives_back(alloc: Global, nodes: u32, is_backwards: bool) -> Result<bool, Unprepared> {
+    let Some(network) = network_of_shape(alloc, Shape::Path, nodes)? else {
+        return Ok(false);
+    };
+    let Some(times) = times_of_all_kinds(alloc)? else {
+        return Ok(false);
+    };
+    if network.top_class() as usize > times.classes() {
+        return Ok(false);
+    }
+    let mut order = in_turn(alloc, nodes)?;
+    if is_backwards {
+        order.reverse();
+    } else if order.len() > 3 {
+        order.rotate_left(3);
+    }
+    let prepared = Prepared::with_order(alloc, &network, &times, &order)?;
+    let found = prepared.order(alloc)?;
+    Ok(found.as_slice() == order.as_slice())
+}
+
+#[test]
+fn the_order_is_given_back(rt: HostRuntime) -> Result<(), Fail> {
+    for is_backwards in [false, true] {
+        let is_same = gives_back(rt.alloc(), 50, is_backwards).map_err(|_| "prepared")?;
+        assert!(rt; is_same);
+    }
+    Ok(())
+}
+
 #[test]
 fn lists_that_are_no_order_are_refused(rt: HostRuntime) -> Result<(), Fail> {
     let alloc = rt.alloc();
