@@ -113,11 +113,13 @@ class Bench:
         os.remove(report)
 
     def prepared(self):
-        """Pairs over a prepared road, on the largest network up to 10^6 nodes."""
-        if None in self.prepared_programs:
+        """Pairs over a prepared road, on the largest network up to 10^6 nodes, and on a country of as many."""
+        country = prepared_turns.country(self.options.scratch, self.largest().nodes)
+        if None in (country, *self.prepared_programs):
             self.built.left_out.append("pairs over a prepared road (g++ and the toolchain `rt` are needed)")
             return
-        rows = prepared_turns.measured(*self.prepared_programs, self.built.hand, self.largest().gr, self.options.scratch)
+        graphs = {prepared_turns.GRID: self.largest().gr, prepared_turns.COUNTRY: country}
+        rows = [row for name, graph in graphs.items() for row in prepared_turns.measured(*self.prepared_programs, self.built.hand, name, graph, self.options.scratch)]
         written("prepared", rows, prepared_turns.FIELDS)
 
     def largest(self):

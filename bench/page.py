@@ -62,7 +62,7 @@ PREPARED = """## Pairs over a prepared road
 
 300 pairs each, departing at 0 on plain weights: by Dijkstra rank, the target being the 2^r-th node that a search settles, and far ones at
 random. Ours is timed by a proved program (`bench/prepared/program`), on the road prepared and as it is; beside it is the same method in plain
-C++ (`bench/prepared/hand.cpp`), which numbers its network by its order. Microseconds a pair, the least, middle and greatest of three rounds or more;
+C++ (`bench/prepared/hand.cpp`). Both number the network by their order. Microseconds a pair, the least, middle and greatest of three rounds or more;
 the preparation in milliseconds.
 """
 
@@ -245,11 +245,17 @@ def pairs(rows, rounds):
 
 def prepared(rows):
     """Pairs over a prepared road, beside the same search without, and a program in plain C++."""
-    if not rows:
-        return []
+    out = [PREPARED] if rows else []
+    for network in dict.fromkeys(row["network"] for row in rows):
+        out += prepared_on(network, [row for row in rows if row["network"] == network])
+    return out
+
+
+def prepared_on(network, rows):
+    """A table of a network's pairs, and a picture."""
     found = {(row["pairs"], row["program"]): row for row in rows}
     names = list(dict.fromkeys(row["pairs"] for row in rows))
-    out = [PREPARED, f"**{int(rows[0]['nodes']):,} nodes**", "", "| pairs | in plain C++ | earliest | beside C++ | unprepared | as quick |", "|" + "---|" * 6]
+    out = [f"**{network}, {int(rows[0]['nodes']):,} nodes**", "", "| pairs | in plain C++ | earliest | beside C++ | unprepared | as quick |", "|" + "---|" * 6]
     lines = {}
     for name in names:
         scale = 1 / 1000 if name == "preparation" else 1
@@ -263,8 +269,9 @@ def prepared(rows):
         base, ours, plain = middles.values()
         cells[3:] = [f"{ours / base:.2f}", cells[3], f"{plain / ours:.1f} times" if plain else ""]
         out.append("| " + " | ".join(cells) + " |")
-    drawn("pairs-by-rank", "Pairs by Dijkstra rank, microseconds each", "rank of the target", "microseconds", list(lines.items()))
-    return [*out, "", "![pairs by Dijkstra rank](pictures/pairs-by-rank.svg)", ""]
+    picture = "pairs-by-rank" if network == prepared_turns.GRID else f"pairs-by-rank-{network}"
+    drawn(picture, f"Pairs by Dijkstra rank, {network}, microseconds each", "rank of the target", "microseconds", list(lines.items()))
+    return [*out, "", f"![pairs by Dijkstra rank, {network}](pictures/{picture}.svg)", ""]
 
 
 def asked(rows, rounds):

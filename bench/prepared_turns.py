@@ -2,10 +2,11 @@
 
     python3 bench/prepared_turns.py [SCRATCH [GRAPH]]
 
-Without a graph it makes a road-like network of 10^6 nodes. Pairs are by Dijkstra rank, the target being the 2^r-th node that a
-search from the source settles, and far ones at random. Both programs are built, run in turns on the same files, and have to reach all
-targets at the same times; ours searches without the preparation, too. It prints the least, the middle and the greatest of the rounds, in
-microseconds a pair. `make bench` writes the same as a table and a picture of the page.
+Without a graph it makes a road-like grid of 10^6 nodes, whose cuts are larger than those of any real network, and a country of towns and
+motorways. Pairs are by Dijkstra rank, the target being the 2^r-th node that a search from the source settles, and far ones at random. Both
+programs are built, run in turns on the same files, and have to reach all targets at the same times; ours searches without the preparation,
+too. It prints the least, the middle and the greatest of the rounds, in microseconds a pair. `make bench` writes the same as tables and
+pictures of the page.
 """
 import os
 import random
@@ -18,9 +19,10 @@ sys.dont_write_bytecode = True
 import programs
 import workspace
 
-FIELDS = ("nodes", "pairs", "program", "least", "middle", "greatest")
+FIELDS = ("network", "nodes", "pairs", "program", "least", "middle", "greatest")
 RANKS, FAR, COUNT, TURNS = (10, 12, 14, 16, 18), "far", 300, 2
 CPP, LED, PLAIN = "in plain C++", "earliest", "earliest, unprepared"
+GRID, COUNTRY = "road-like grid", "country"
 
 
 def pairs_of(hand, graph, scratch):
@@ -50,8 +52,8 @@ def timed(program, graph, pairs):
     return int(prepared[1]), led, plain, {int(total) for *_, total in found}
 
 
-def measured(cpp, ours, hand, graph, scratch):
-    """A row of times for each file of pairs and program, and one for the preparations."""
+def measured(cpp, ours, hand, name_of, graph, scratch):
+    """A row of times for each file of pairs and program, and one for the preparations, of a network of this name."""
     nodes, files = pairs_of(hand, graph, scratch)
     rows, prepared = [], {CPP: [], LED: []}
     for name, pairs in files.items():
@@ -65,9 +67,18 @@ def measured(cpp, ours, hand, graph, scratch):
                 sums |= totals
         if len(sums) != 1:
             sys.exit(f"the arrivals of {name} differ: their sums are {sorted(sums)}")
-        rows += [(nodes, name, program, *spread(some)) for program, some in times.items()]
-        print(f"prepared: pairs {name}, done", flush=True)
-    return rows + [(nodes, "preparation", program, *spread(some)) for program, some in prepared.items()]
+        rows += [(name_of, nodes, name, program, *spread(some)) for program, some in times.items()]
+        print(f"prepared: {name_of}, pairs {name}, done", flush=True)
+    return rows + [(name_of, nodes, "preparation", program, *spread(some)) for program, some in prepared.items()]
+
+
+def country(scratch, nodes):
+    """The graph of a country of about this many nodes; None if its maker can't be built."""
+    maker, base = os.path.join(scratch, "country"), os.path.join(scratch, f"country{nodes}")
+    if not programs.compiled([*programs.CPP, os.path.join(programs.HERE, "prepared", "country.cpp"), "-o", maker]):
+        return None
+    subprocess.run([maker, str(nodes), "1", base], check=True, stderr=subprocess.DEVNULL)
+    return base + ".gr"
 
 
 def spread(some):
@@ -86,13 +97,15 @@ def main():
     words = sys.argv[1:]
     scratch = words[0] if words else workspace.SCRATCH
     made = programs.Programs(scratch)
-    graph = words[1] if len(words) > 1 else programs.Network(made, 1_000_000).gr
-    _, files = pairs_of(made.hand, graph, scratch)
-    cpp, ours = built(scratch, graph, files["2^10"])
-    if None in (cpp, ours):
+    graphs = {"given": words[1]} if len(words) > 1 else {GRID: programs.Network(made, 1_000_000).gr, COUNTRY: country(scratch, 1_000_000)}
+    first = next(iter(graphs.values()))
+    _, files = pairs_of(made.hand, first, scratch)
+    cpp, ours = built(scratch, first, files["2^10"])
+    if None in (cpp, ours, *graphs.values()):
         sys.exit("a program isn't built: g++ and the toolchain `rt` are needed")
-    for row in measured(cpp, ours, made.hand, graph, scratch):
-        print(" ".join(f"{it:>12}" for it in row))
+    for name, graph in graphs.items():
+        for row in measured(cpp, ours, made.hand, name, graph, scratch):
+            print(" ".join(f"{it:>12}" for it in row))
 
 
 if __name__ == "__main__":

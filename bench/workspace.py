@@ -21,7 +21,7 @@ PROGRAMS = {
     "alone": "ea_input ea_road ea_search ea_paths anyhow",
     "several": "ea_input ea_road ea_search ea_paths ea_engine rand_core rand_xoshiro anyhow",
     "pairs": "ea_input ea_road ea_search ea_paths anyhow",
-    "prepared": "ea_input ea_travel_times ea_road ea_hierarchy ea_paths anyhow",
+    "prepared": "ea_input ea_travel_times ea_road ea_hierarchy ea_paths ea_layout anyhow",
     "check": "ea_input ea_road ea_search ea_paths ea_report ea_check anyhow",
     "rank": "ea_rank anyhow",
     "readers": "ea_input anyhow",

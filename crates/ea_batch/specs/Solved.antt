@@ -6,8 +6,8 @@ use Rattle.ea_road.specs.Roads.{Roads}
 use Rattle.ea_batch.specs.declared.searching.Aids.{Aids}
 use Rattle.ea_batch.specs.declared.searching.Searching.{Searching}
 use Rattle.ea_batch.specs.declared.searching.Searching.TheVariants as searching
-use Rattle.ea_hierarchy.specs.Hierarchies.{Hierarchy}
-use Rattle.ea_hierarchy.specs.Preparations.{IsPreparedFor}
+use Rattle.ea_layout.specs.declared.layout.Layout.{Layout}
+use Rattle.ea_layout.specs.Laid.{IsPreparedLaid}
 use Rattle.ea_layout.specs.Orders.{LaysOut}
 use Rattle.ea_load.specs.declared.road.Road.{Road}
 use Rattle.ea_search.specs.Answers.{Answered, HasArrivals, IsAnswer}
@@ -43,14 +43,14 @@ searched (searching.Asked search) = search
 abbrev pub Serves : Roads → Bool → Searching → Type 0
 Serves roads walks search = ((searched search).nodes ≡ roads.nodes) × ((searched search).walks ≡ walks)
 
--- A preparation is one of the road.
-abbrev pub IsPreparedOn : Road → Hierarchy → Type 0
-IsPreparedOn road prepared = IsPreparedFor road.network (times_on road) prepared
+-- A layout is one of the road, and so is its preparation, if it has one.
+pub record IsLaidOut (road : Road) (layout : Layout) : Type 0 where
+  pub laid_out : LaysOut road.network layout
+  pub prepared : IsPreparedLaid (times_on road) layout
 
 -- What searches may use is of the road.
 pub record AreAidsOn (road : Road) (aids : Aids) : Type 0 where
-  pub prepared : IfSome aids.prepared (λ p. IsPreparedOn road p.now)
-  pub layout : IfSome aids.layout (λ l. LaysOut road.network l.now)
+  pub layout : IfSome aids.layout (λ l. IsLaidOut road l.now)
 
 -- The same of arrays that are known to be on the road as it was given, or laid out.
 abbrev pub IsReady : Roads → Bool → Searched → Type 0

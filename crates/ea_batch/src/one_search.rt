@@ -2,13 +2,11 @@
 ghost use Rattle.std.specs.Prelude.{◌≡◌, All, IfOk, IfSome, None, Some};
 ghost use Rattle.ea_road.specs.Roads.{IsNode};
 ghost use Rattle.ea_report.specs.Asked.{chosen_by, shape_of};
-ghost use Rattle.ea_layout.specs.Orders.{LaysOut};
 ghost use Rattle.ea_search.specs.Listings.{Searched};
-ghost use Rattle.ea_batch.specs.Solved.{AreAidsOn, HasFoundAt, HasFoundOn, IsPreparedOn, IsReady, IsShown, MaySearch, Serves, searched};
+ghost use Rattle.ea_batch.specs.Solved.{AreAidsOn, HasFoundAt, HasFoundOn, IsLaidOut, IsReady, IsShown, MaySearch, Serves, searched};
 
 use crate::searching::{Aids, Searching, few_chosen};
 use ea_asked::AskedSearch;
-use ea_hierarchy::Prepared;
 use ea_layout::{LaidSearch, Layout};
 use ea_load::Road;
 use ea_paths::Search;
@@ -64,29 +62,22 @@ fn laid_arrays(
     }
 }
 
-/// Searches a problem on a road as it was given; that of a pair is led by a preparation, if there is one.
+/// Searches a problem on a road as it was given.
 fn search_plain(
     alloc: Global,
     road: &Road,
-    prepared: Option<&Prepared>,
     query: &Query,
     walks: bool,
     last: Option<Searching>,
 ) -> Result<Search, AllocError>
     requires may { MaySearch road.now walks query.now last }
-    requires prepared { IfSome prepared (λ p. IsPreparedOn road.now p.now) }
     ensures { IfOk result (HasFoundOn walks road.now query.now) }
 {
     let search = plain_arrays(alloc, road, walks, last)?;
-    match prepared {
-        Some(prepared) => {
-            Ok(search.find_led(alloc, &road.network, &road.times, prepared, query))
-        }
-        None => Ok(search.find(&road.network, &road.times, query)),
-    }
+    Ok(search.find(&road.network, &road.times, query))
 }
 
-/// Searches a problem on a road laid out.
+/// Searches a problem on a road laid out; that of a pair is led by its preparation, if it has one.
 fn search_laid(
     alloc: Global,
     road: &Road,
@@ -96,7 +87,7 @@ fn search_laid(
     last: Option<Searching>,
 ) -> Result<LaidSearch, AllocError>
     requires may { MaySearch road.now walks query.now last }
-    requires layout { LaysOut road.now.network layout.now }
+    requires layout { IsLaidOut road.now layout.now }
     ensures { IfOk result (HasFoundOn walks road.now query.now) }
 {
     let search = laid_arrays(alloc, road, walks, last)?;
@@ -168,7 +159,7 @@ fn search_whole(
             Ok(Searching::Laid(found))
         }
         None => {
-            let found = search_plain(alloc, road, aids.prepared, query, walks, last)?;
+            let found = search_plain(alloc, road, query, walks, last)?;
             Ok(Searching::Plain(found))
         }
     }

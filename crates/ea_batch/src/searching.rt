@@ -5,7 +5,6 @@ ghost use Rattle.ea_batch.specs.Solved.{searched};
 ghost use Rattle.ea_report.specs.Asked.{chosen_by};
 
 use ea_asked::AskedSearch;
-use ea_hierarchy::Prepared;
 use ea_layout::{LaidSearch, Layout};
 use ea_paths::{Answer, Search};
 use ea_report::ReportOptions;
@@ -37,9 +36,7 @@ impl Searching {
 /// What searches on a road may use, if it is there. Answers are the same without.
 #[derive(Clone, Copy)]
 pub struct Aids<'a> {
-    /// A preparation of the road, for pairs.
-    pub prepared: Option<&'a Prepared>,
-    /// A layout of its network.
+    /// A layout of the road's network; for pairs, it may be prepared.
     pub layout: Option<&'a Layout>,
 }
 

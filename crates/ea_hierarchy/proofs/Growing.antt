@@ -6,7 +6,7 @@ use Rattle.std.proofs.lemmas.Bool.Decides.{leb_tells}
 use Rattle.std.proofs.lemmas.List.{get_or_push}
 use Rattle.ea_hierarchy.specs.Growth.{Has, IsGrown, IsMade}
 use Rattle.ea_hierarchy.specs.Hierarchies.{IsFrom, IsUpward, Joins}
-use Rattle.ea_hierarchy.specs.Waiting.{Appends, AreAbove, HandsOn, Sorts, Waits, list_at}
+use Rattle.ea_hierarchy.specs.Waiting.{Appends, AreAbove, Frees, HandsOn, Sorts, Waits, list_at}
 
 -- one more rank: sorted, appended, handed on
 module _ (nodes made : ℕ) (begin lists ordered after : List (List ℕ)) (firsts heads grown : List ℕ)
@@ -240,3 +240,21 @@ module _ (nodes : ℕ) (begin lists : List (List ℕ)) (firsts heads : List ℕ)
     });
     kept = λ low high waits. let up = above low high waits in (is.kept low high waits).joined (omega (arith, up.0, up.1));
   }
+
+-- the list of a rank that is made is freed
+pub freed_grown : (nodes made rank : ℕ) (begin lists after : List (List ℕ)) (firsts heads : List ℕ) → rank < made → IsGrown nodes made begin lists firsts heads → Frees lists after rank → IsGrown nodes made begin after firsts heads
+freed_grown nodes made rank begin lists after firsts heads below is frees = record {
+  ranks = frees.count ∙ is.ranks;
+  count = is.count;
+  last = is.last;
+  within = is.within;
+  rises = is.rises;
+  above = λ low high waits. is.above low high (frees.came low high waits);
+  upward = is.upward;
+  ascend = is.ascend;
+  handed = λ low place early from later. still (slice_index heads (slice_index firsts low)) (slice_index heads place) (is.handed low place early from later);
+  kept = λ low high waits. still low high (is.kept low high waits);
+}
+  where
+    still : (low high : ℕ) → Has made lists firsts heads low high → Has made after firsts heads low high
+    still low high has = record { joined = has.joined; waits = λ late. frees.kept low high (λ same. omega (arith, same, late, below)) (has.waits late) }

@@ -10,7 +10,7 @@ use Rattle.std.proofs.lemmas.List.Sorted.{Contains-permutation, IsNonDecreasingB
 use Rattle.ea_road.specs.Roads.{FitsNodes, IsArc, IsNetwork, Roads}
 use Rattle.ea_road.specs.declared.arc.Arc.{Arc}
 use Rattle.ea_hierarchy.specs.Hierarchies.{AreRanks, rank_of}
-use Rattle.ea_hierarchy.specs.Waiting.{Adds, Appends, AreAbove, AreListed, HandsOn, IsListed, ListsArc, Sorts, Waits, list_at}
+use Rattle.ea_hierarchy.specs.Waiting.{Adds, Appends, AreAbove, AreListed, Frees, HandsOn, IsListed, ListsArc, Sorts, Waits, list_at}
 
 -- a number is in a list
 abbrev Stands : List ℕ → ℕ → Type 0
@@ -298,3 +298,17 @@ appended_below nodes lists ordered rank list heads grown above sorts same append
     let found = appends.of_list (length heads) (omega arith) some in
     let low = waits_at nodes lists ordered rank found.0 list above sorts same found.1 in
     omega (arith, found.2, low)
+
+-- a list that was emptied
+pub emptied_frees : {X : Type 0} (f : X → List ℕ) (held : List X) (place : ℕ) (after : X) → place < length held → f after ≡ [] → Frees (map f held) (map f (set held place after)) place
+emptied_frees f held place after inside none =
+    let same : map f (set held place after) ≡ set (map f held) place [] = map-set f held place after ∙ ap (λ (l : List ℕ). set (map f held) place l) none in
+    let inside_map : place < length (map f held) = rw length-map inside in
+    subst (λ (ls : List (List ℕ)). Frees (map f held) ls place) (sym same) (record {
+      count = length-set (map f held) place [];
+      kept = λ low high other waits. waits_of (set (map f held) place []) low high (list_at (map f held) low) (elsewhere (map f held) place [] inside_map low other) (stands_of (map f held) low high (list_at (map f held) low) refl waits);
+      came = λ low high waits. elim (came_if (map f held) place [] inside_map (λ x. ⊥) (λ x there. absurd (omega (arith, there.1))) low high waits) [
+        | inl old ↦ old
+        | inr none ↦ absurd none.1
+      ];
+    })

@@ -4,8 +4,8 @@ use Rattle.std.specs.Prelude.{slice_index}
 use Rattle.std.proofs.Math.ListN.{get_or-append}
 use Rattle.std.proofs.lemmas.Bool.Decides.{leb_tells}
 use Rattle.std.proofs.lemmas.List.{get_or_push}
-use Rattle.ea_hierarchy.specs.Cells.{AreFound, FindsMore, IsFinal, IsLowest, IsPath, IsTopFound, IsWayFrom}
-use Rattle.ea_hierarchy.specs.Hierarchies.{IsFrom, IsUpward}
+use Rattle.ea_hierarchy.specs.Cells.{AreFound, FindsMore, IsFinal, IsPath, IsTopFound, IsWayFrom}
+use Rattle.ea_hierarchy.specs.Hierarchies.{IsFrom, IsLowest, IsUpward}
 use Rattle.ea_hierarchy.specs.declared.cells.Aim.{Aim}
 use Rattle.ea_hierarchy.specs.declared.cells.Cell.{Cell}
 
@@ -84,10 +84,8 @@ module _ (firsts heads path : List ℕ) (rank at : ℕ) (climbs : Climbs firsts 
   ]
 
   -- the next rank is the highest
-  pub top_ends : (aim : Aim) (list : List Cell) → slice_index firsts (at + 1) ≤ slice_index firsts at → IsTopFound firsts heads aim list (path ++ at ∷ [])
-  top_ends aim list none parent some lowest =
-      let here : IsLowest firsts heads at parent = subst (λ n. IsLowest firsts heads n parent) last_is lowest in
-      absurd (omega (arith, here.some, none))
+  pub top_ends : (aim : Aim) (list : List Cell) → ((head : ℕ) → IsLowest firsts heads at head → ⊥) → IsTopFound firsts heads aim list (path ++ at ∷ [])
+  top_ends aim list none parent some lowest = absurd (none parent (subst (λ n. IsLowest firsts heads n parent) last_is lowest))
 
   pub way_begins : (aim : Aim) (list : List Cell) → IsWayFrom aim list (path ++ at ∷ []) rank
   way_begins aim list = inr (omega (arith, long), begins_at)

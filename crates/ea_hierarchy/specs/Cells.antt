@@ -1,6 +1,6 @@
 -- What is known of each rank for one target: what is reached from it downward, and its bound once that is found.
 use Rattle.std.specs.Prelude.{◌≡◌, ◌⊎◌, ℕ, ◌+◌, ◌-◌, ◌<◌, ◌≤◌, List, Contains, length, nat_le, nat_lt, slice_index, slice_index_or, if◌then◌else◌}
-use Rattle.ea_hierarchy.specs.Hierarchies.{HasArc, IsFrom}
+use Rattle.ea_hierarchy.specs.Hierarchies.{HasArc, IsFrom, IsLowest}
 use Rattle.ea_hierarchy.specs.Numbers.{plus}
 use Rattle.ea_hierarchy.specs.Potentials.{IsReach, potential}
 use Rattle.ea_hierarchy.specs.Trimmed.{IsReplaced}
@@ -98,11 +98,6 @@ pub record AreFound (firsts heads ups : List ℕ) (aim : Aim) (list : List Cell)
 pub record FindsMore (aim : Aim) (list after : List Cell) : Type 0 where
   pub reach : (rank : ℕ) → reach_of aim after rank ≡ reach_of aim list rank
   pub kept : (rank : ℕ) → IsFinal aim list rank → IsFinal aim after rank
-
--- A rank has another as its lowest head.
-pub record IsLowest (firsts heads : List ℕ) (rank parent : ℕ) : Type 0 where
-  pub some : slice_index firsts rank < slice_index firsts (rank + 1)
-  pub is : slice_index heads (slice_index firsts rank) ≡ parent
 
 -- Ranks of which each but the last has the next one as its lowest head.
 pub record IsPath (firsts heads path : List ℕ) : Type 0 where

@@ -1,9 +1,9 @@
 -- Upward arcs over the ranks of nodes: those from each rank lie side by side, by ascending heads, and each has two numbers, one for each
 -- direction. Ranks and places count from 0.
-use Rattle.std.specs.Prelude.{◌≡◌, ℕ, ◌+◌, ◌-◌, ◌^◌, ◌<◌, ◌≤◌, List, length, min, slice_index}
+use Rattle.std.specs.Prelude.{◌≡◌, ◌≢◌, ℕ, ◌+◌, ◌-◌, ◌^◌, ◌<◌, ◌≤◌, List, length, min, slice_index}
 use Rattle.ea_road.specs.declared.arc.Arc.{Arc}
 use Rattle.ea_hierarchy.specs.Numbers.{plus}
-use Rattle.ea_hierarchy.specs.declared.numbers.TheConstants.{MOST}
+use Rattle.ea_hierarchy.specs.declared.numbers.TheConstants.{MOST, NONE}
 
 -- The rank of a node.
 abbrev pub rank_of : List ℕ → ℕ → ℕ
@@ -33,6 +33,21 @@ pub record IsUpward (nodes : ℕ) (firsts heads : List ℕ) : Type 0 where
   pub ascend : (rank place later : ℕ) → rank < nodes → IsFrom firsts rank place → IsFrom firsts rank later → place < later → slice_index heads place < slice_index heads later
   pub chordal : (rank place later : ℕ) → rank < nodes → IsFrom firsts rank place → IsFrom firsts rank later → place < later
       → (joining : ℕ) × Joins firsts heads (slice_index heads place) (slice_index heads later) joining
+
+-- A rank has another as its lowest head.
+pub record IsLowest (firsts heads : List ℕ) (rank parent : ℕ) : Type 0 where
+  pub some : slice_index firsts rank < slice_index firsts (rank + 1)
+  pub is : slice_index heads (slice_index firsts rank) ≡ parent
+
+-- The parent of a rank is its lowest head, `NONE` if it has no arc.
+pub record IsParent (firsts heads : List ℕ) (rank parent : ℕ) : Type 0 where
+  pub lowest : parent ≢ NONE → IsLowest firsts heads rank parent
+  pub none : parent ≡ NONE → (head : ℕ) → IsLowest firsts heads rank head → ⊥
+
+-- The parents of all ranks.
+pub record AreParents (firsts heads parents : List ℕ) : Type 0 where
+  pub count : length parents ≡ length firsts - 1
+  pub each : (rank : ℕ) → rank < length firsts - 1 → IsParent firsts heads rank (slice_index parents rank)
 
 -- An upward arc leads from a rank to another.
 abbrev pub HasArc : List ℕ → List ℕ → ℕ → ℕ → Type 0

@@ -28,6 +28,12 @@ pub record Sorts (lists after : List (List ℕ)) (rank : ℕ) : Type 0 where
   pub came : (low high : ℕ) → Waits after low high → Waits lists low high
   pub ascend : (place later : ℕ) → place ≤ later → later < length (list_at after rank) → slice_index (list_at after rank) place ≤ slice_index (list_at after rank) later
 
+-- The list of a rank was freed; those of the others wait still.
+pub record Frees (lists after : List (List ℕ)) (rank : ℕ) : Type 0 where
+  pub count : length after ≡ length lists
+  pub kept : (low high : ℕ) → (low ≡ rank → ⊥) → Waits lists low high → Waits after low high
+  pub came : (low high : ℕ) → Waits after low high → Waits lists low high
+
 -- Each that waits is above its rank.
 abbrev pub AreAbove : ℕ → List (List ℕ) → Type 0
 AreAbove nodes lists = (low high : ℕ) → Waits lists low high → (low < high) × (high < nodes)

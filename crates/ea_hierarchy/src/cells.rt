@@ -1,7 +1,7 @@
 //! What is known of each rank for one target.
 ghost use Rattle.std.specs.Prelude.{◌≡◌, ◌≤◌, ◌<◌, ◌+◌, ◌-◌, ◌^◌, ℕ, Contains, IfOk, [], length, slice_index, true};
 ghost use Rattle.std.specs.Vec.{vec_capacity};
-ghost use Rattle.ea_hierarchy.specs.Hierarchies.{AreNumbers, AreUpward, IsFrom};
+ghost use Rattle.ea_hierarchy.specs.Hierarchies.{AreNumbers, AreParents, AreUpward, IsFrom};
 ghost use Rattle.ea_hierarchy.specs.declared.numbers.TheConstants.{NONE};
 
 use crate::customize::Numbers;
@@ -365,6 +365,8 @@ impl Cells {
     /// The ranks up the path of lowest heads from one on, up to the first whose bound is found.
     pub(crate) fn climb(&self, upward: &Upward, rank: u32, path: &mut Vec<u32>)
         requires upward { AreUpward upward.now.firsts.items upward.now.heads.items }
+        requires parents { AreParents upward.now.firsts.items upward.now.heads.items
+            upward.now.parents.items }
         requires rank { rank < length upward.now.firsts.items - 1 }
         requires count { length self.now.list.items ≡ length upward.now.firsts.items - 1 }
         requires empty { path.old.items ≡ [] }
@@ -378,11 +380,11 @@ impl Cells {
         let mut at = rank;
         while !self.is_final(at) {
             path.push_reserved(at);
-            let first = upward.firsts[at as usize];
-            if first >= upward.firsts[at as usize + 1] {
+            let parent = upward.parents[at as usize];
+            if parent == NONE {
                 return;
             }
-            at = upward.heads[first as usize];
+            at = parent;
         }
     }
 

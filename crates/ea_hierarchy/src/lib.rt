@@ -20,6 +20,7 @@ mod waiting;
 pub use bounds::Bounds;
 pub use ea_road::OutOfMemory;
 pub use numbers::{MOST, NONE};
+pub use postorder::elimination_order;
 pub use prepared::Prepared;
 pub use ranks::is_order;
 pub use unprepared::Unprepared;

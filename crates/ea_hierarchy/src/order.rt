@@ -1,4 +1,5 @@
 //! An elimination order: the cheapest node first, by its degree and its level.
+use crate::numbers::NONE;
 use crate::upward::Limits;
 use ea_road::Network;
 use std::alloc::{AllocError, Global};
@@ -16,11 +17,11 @@ const PART: usize = 8;
 #[derive(Drop)]
 pub(crate) struct Elimination {
     /// The neighbours of each node that are left, ascending. Behind a long list there may be more, and then
-    /// some of it are gone or there twice. Of an eliminated node those that were left.
-    pub(crate) around: Vec<Vec<u32>>,
+    /// some of it are gone or there twice.
+    around: Vec<Vec<u32>>,
     /// The length of each list when it was last in order.
-    sizes: Vec<usize>,
-    /// The last union of two lists.
+    sizes: Vec<u32>,
+    /// The last union of two lists, in its first places.
     union: Vec<u32>,
     /// One above the highest eliminated neighbour's.
     levels: Vec<u32>,
@@ -30,13 +31,23 @@ pub(crate) struct Elimination {
     /// No node that is left costs less.
     cheapest: usize,
     pub(crate) order: Vec<u32>,
+    /// The neighbours that were left of each node of the order, one node's after the other's.
+    pub(crate) above: Vec<u32>,
+    /// The ends of those in this list.
+    pub(crate) ends: Vec<u32>,
 }
 
-/// Puts a neighbour to those of a node.
+/// A list of neighbours is looked through for another up to this length.
+const SHORT: usize = 16;
+
+/// Puts a neighbour to those of a node, unless it is among a few.
 fn join(around: &mut Vec<Vec<u32>>, node: u32, neighbour: u32) -> Result<(), AllocError> {
     let place = node as usize;
     if node != neighbour && place < around.len() {
-        around[place].push(neighbour)?;
+        let list = &mut around[place];
+        if list.len() > SHORT || !list.contains(&neighbour) {
+            list.push(neighbour)?;
+        }
     }
     Ok(())
 }
@@ -67,53 +78,75 @@ fn around_of(alloc: Global, network: &Network) -> Result<Vec<Vec<u32>>, AllocErr
     Ok(around)
 }
 
+/// A length in 32 bits; `NONE` if it is longer.
+fn count_of(length: usize) -> u32 {
+    length.min(NONE as usize) as u32
+}
+
 /// The length of each list.
-fn sizes_of(alloc: Global, lists: &[Vec<u32>]) -> Result<Vec<usize>, AllocError> {
+fn sizes_of(alloc: Global, lists: &[Vec<u32>]) -> Result<Vec<u32>, AllocError> {
     let mut sizes = Vec::with_capacity(alloc, lists.len())?;
     for list in lists {
-        sizes.push(list.len())?;
+        sizes.push(count_of(list.len()))?;
     }
     Ok(sizes)
 }
 
-/// The union of two ascending lists without two numbers, ascending.
+/// Writes the numbers of a list but for two at a place and those after it. Returns the next place.
+fn put_all(list: &[u32], without: (u32, u32), union: &mut [u32], place: usize) -> usize {
+    let mut end = place;
+    for number in list {
+        if *number != without.0 && *number != without.1 && end < union.len() {
+            union[end] = *number;
+            end += 1;
+        }
+    }
+    end
+}
+
+/// The union of two ascending lists without two numbers, ascending, in the first places of a list. Returns how many.
 fn unite(
     one: &[u32],
     other: &[u32],
     without: (u32, u32),
     union: &mut Vec<u32>,
-) -> Result<(), AllocError> {
+) -> Result<usize, AllocError> {
+    let most = one.len().saturating_add(other.len());
+    if union.len() < most {
+        union.resize(most, 0)?;
+    }
     let mut at = 0usize;
     let mut to = 0usize;
-    union.clear();
-    for _ in 0..one.len().saturating_add(other.len()) {
-        let left = next_of(one, at);
-        let right = next_of(other, to);
-        let least = left.min(right);
-        if least > u64::from(u32::MAX) {
-            return Ok(());
+    let mut end = 0usize;
+    for _ in 0..most {
+        if at >= one.len() || to >= other.len() {
+            break;
         }
-        if left == least {
-            at = at.saturating_add(1);
+        let left = one[at];
+        let right = other[to];
+        let mut least = right;
+        // Most numbers are in both lists, so branches are predicted.
+        if left == right {
+            at += 1;
+            to += 1;
+        } else if left < right {
+            least = left;
+            at += 1;
+        } else {
+            to += 1;
         }
-        if right == least {
-            to = to.saturating_add(1);
-        }
-        let number = least as u32;
-        if number != without.0 && number != without.1 {
-            union.push(number)?;
+        if least != without.0 && least != without.1 && end < union.len() {
+            union[end] = least;
+            end += 1;
         }
     }
-    Ok(())
-}
-
-/// The number at a place; after the last one a number above all.
-#[inline(always)]
-fn next_of(list: &[u32], place: usize) -> u64 {
-    match list.get(place) {
-        Some(number) => u64::from(*number),
-        None => u64::MAX,
+    if at < one.len() {
+        return Ok(put_all(&one[at..], without, union, end));
     }
+    if to < other.len() {
+        return Ok(put_all(&other[to..], without, union, end));
+    }
+    Ok(end)
 }
 
 /// Leaves each number once, ascending.
@@ -141,6 +174,8 @@ impl Elimination {
             waiting,
             cheapest: 0,
             order: Vec::with_capacity(alloc, nodes)?,
+            above: Vec::new(alloc),
+            ends: Vec::with_capacity(alloc, nodes)?,
         })
     }
 
@@ -202,7 +237,7 @@ impl Elimination {
     /// Whether a list of this length is in order: nothing was put behind it.
     fn is_in_order(&self, place: usize, length: usize) -> bool {
         match self.sizes.get(place) {
-            Some(size) => *size == length,
+            Some(size) => *size as usize == length,
             None => false,
         }
     }
@@ -225,7 +260,7 @@ impl Elimination {
     fn keep_around(&mut self, node: u32, list: Vec<u32>) {
         let place = node as usize;
         if place < self.around.len() && place < self.sizes.len() {
-            self.sizes[place] = list.len();
+            self.sizes[place] = count_of(list.len());
             self.around[place] = list;
         }
     }
@@ -246,19 +281,20 @@ impl Elimination {
         self.levels[place] = self.levels[place].max(self.level(node).saturating_add(1));
         let length = self.around[place].len();
         if self.is_in_order(place, length) && length / PART <= others.len() {
-            unite(
+            let count = unite(
                 &self.around[place],
                 others,
                 (node, neighbour),
                 &mut self.union,
             )?;
+            let end = count.min(self.union.len());
             self.around[place].clear();
-            self.around[place].extend_from_slice(&self.union)?;
-            self.sizes[place] = self.around[place].len();
+            self.around[place].extend_from_slice(&self.union[..end])?;
+            self.sizes[place] = count_of(self.around[place].len());
             return self.put(neighbour);
         }
         self.around[place].extend_from_slice(others)?;
-        if self.around[place].len() / 2 >= self.sizes[place] {
+        if self.around[place].len() / 2 >= self.sizes[place] as usize {
             let list = self.taken_around(alloc, neighbour);
             self.keep_around(neighbour, list);
         }
@@ -276,9 +312,9 @@ impl Elimination {
         for neighbour in &others {
             self.join_all(alloc, node, &others, *neighbour)?;
         }
-        let degree = others.len();
-        self.keep_around(node, others);
-        Ok(degree)
+        self.above.extend_from_slice(&others)?;
+        self.ends.push(count_of(self.above.len()))?;
+        Ok(others.len())
     }
 }
 

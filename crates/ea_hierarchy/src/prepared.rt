@@ -1,7 +1,7 @@
 ghost use Rattle.std.specs.Prelude.{◌≡◌, ◌≤◌, ◌<◌, ◌+◌, ◌-◌, ◌^◌, ℕ, IfErr, IfOk, IfSome, length};
 ghost use Rattle.ea_road.specs.Roads.{IsNode, top_class};
 ghost use Rattle.ea_hierarchy.specs.Growth.{AreJoined};
-ghost use Rattle.ea_hierarchy.specs.Hierarchies.{AreNumbers, AreRanks, AreUpward, IsHierarchy, rank_of};
+ghost use Rattle.ea_hierarchy.specs.Hierarchies.{AreNumbers, AreParents, AreRanks, AreUpward, IsHierarchy, rank_of};
 ghost use Rattle.ea_hierarchy.specs.Orders.{IsOrder};
 ghost use Rattle.ea_hierarchy.specs.Preparations.{IsPreparedFor, IsPreparedOver};
 ghost use Rattle.ea_hierarchy.specs.declared.unprepared.Unprepared.TheVariants.{NoOrder};
@@ -10,8 +10,7 @@ use crate::chains::chains_of;
 use crate::cover::cover;
 use crate::customize::{Numbers, relax};
 use crate::numbers::NONE;
-use crate::order::eliminate_all;
-use crate::postorder::in_postorder;
+use crate::postorder::elimination_order;
 use crate::ranks::{is_order, ranks_of};
 use crate::trimmed::Trimmed;
 use crate::unprepared::Unprepared;
@@ -39,7 +38,7 @@ pub struct Prepared {
 }
 
 impl Model for Prepared {
-    ghost use Rattle.ea_hierarchy.specs.Hierarchies.{Hierarchy, IsHierarchy};
+    ghost use Rattle.ea_hierarchy.specs.Hierarchies.{AreParents, Hierarchy, IsHierarchy};
     ghost use Rattle.ea_hierarchy.specs.Trimmed.{AreTrimmed};
 
     ghost Value = { Hierarchy };
@@ -62,7 +61,8 @@ impl Model for Prepared {
         × AreTrimmed p.upward.firsts.items p.upward.heads.items p.numbers.ups.items
         p.trimmed_ups.rows.items
         × AreTrimmed p.upward.firsts.items p.upward.heads.items p.numbers.downs.items
-        p.trimmed_downs.rows.items };
+        p.trimmed_downs.rows.items
+        × AreParents p.upward.firsts.items p.upward.heads.items p.upward.parents.items };
 }
 
 /// The upward arcs of a network over the ranks of its nodes; none if there are too many of them or of triangles.
@@ -78,21 +78,14 @@ fn upward_over(
         length upward.firsts.items ≡ network.now.nodes + 1)) }
     ensures joined { IfOk result (λ made. IfSome made (λ upward.
         AreJoined network.now ranks.now upward.firsts.items upward.heads.items)) }
+    ensures parents { IfOk result (λ made. IfSome made (λ upward.
+        AreParents upward.firsts.items upward.heads.items upward.parents.items)) }
 {
     network.keeps_limits();
     let lists = lists_of(alloc, network, ranks)?;
-    match upward_of(alloc, lists, limits_of(network))? {
+    match upward_of(alloc, lists, Limits::of(network))? {
         Some(upward) => Ok(Some(upward)),
         None => Ok(None),
-    }
-}
-
-/// How many upward arcs and triangles a preparation may have: some for each node and arc.
-fn limits_of(network: &Network) -> Limits {
-    let size = u64::from(network.nodes()) + network.arcs().len() as u64;
-    Limits {
-        arcs: (4096 + 16 * size).min(u64::from(NONE)) as u32,
-        triangles: 1_048_576 + 256 * size,
     }
 }
 
@@ -107,6 +100,9 @@ const ARCS_A_NODE: u64 = 64;
 
 /// Ranks are close if they differ by less than this many times `LEAST_NEAR`.
 const RANKS_A_NODE: u32 = 16;
+
+/// If there are large cuts, and ranks differ by more than this part of all ranks, only this part of those nodes are near.
+const PARTS: u32 = 8;
 
 /// How many nodes a search without bounds may scan in less than the time of a first bound.
 fn near_by(upward: &Upward) -> u32 {
@@ -150,6 +146,15 @@ fn numbers_for<T: TravelTimes>(
     Ok(numbers)
 }
 
+/// The numbers of this many nodes, ascending.
+fn numbers_of(alloc: Global, nodes: u32) -> Result<Vec<u32>, AllocError> {
+    let mut order = Vec::with_capacity(alloc, nodes as usize)?;
+    for place in 0..nodes {
+        order.push(place + 1)?;
+    }
+    Ok(order)
+}
+
 impl Prepared {
     /// A preparation of a network over a separate order: the nodes are eliminated by least degree and level.
     /// `NotWorth` comes if there are too many upward arcs or triangles for the network's size, `OutOfMemory` if
@@ -163,11 +168,22 @@ impl Prepared {
         ensures prepared { IfOk result (IsPreparedFor network.now (T.answers times.now)) }
         ensures refused { IfErr result (λ why. why ≡ NoOrder → ⊥) }
     {
-        let Some(elimination) = eliminate_all(alloc, network, limits_of(network))? else {
-            return Err(Unprepared::NotWorth);
-        };
-        let order = in_postorder(alloc, &elimination)?;
-        drop(elimination);
+        let order = elimination_order(alloc, network)?;
+        Prepared::over(alloc, network, times, &order)
+    }
+
+    /// A preparation of a network over the order of its numbers, such as of one that was renumbered in an `elimination_order`. `NotWorth` and
+    /// `OutOfMemory` come as from `of`.
+    pub fn by_numbers<T: TravelTimes>(
+        alloc: Global,
+        network: &Network,
+        times: &T,
+    ) -> Result<Prepared, Unprepared>
+        requires { top_class network.now.arcs ≤ T.classes times.now }
+        ensures prepared { IfOk result (IsPreparedFor network.now (T.answers times.now)) }
+        ensures refused { IfErr result (λ why. why ≡ NoOrder → ⊥) }
+    {
+        let order = numbers_of(alloc, network.nodes())?;
         Prepared::over(alloc, network, times, &order)
     }
 
@@ -275,12 +291,14 @@ impl Prepared {
     }
 
     /// How many nodes a search from a source may scan before it is led by bounds to a target: less than take the time of a first bound. In a
-    /// network with small cuts that time is short, and a target is rarely near unless it is in the same small part, whose ranks are close.
+    /// network with small cuts that time is short. A target whose rank is far from the source's is in another part, and rarely near.
     pub fn near(&self, source: u32, target: u32) -> u32 {
+        let apart = self.rank(source).abs_diff(self.rank(target));
         if self.has_large_cuts() {
-            return self.near;
+            let is_far = apart > self.nodes() / PARTS;
+            return if is_far { self.near / PARTS } else { self.near };
         }
-        if self.rank(source).abs_diff(self.rank(target)) < LEAST_NEAR * RANKS_A_NODE {
+        if apart < LEAST_NEAR * RANKS_A_NODE {
             LEAST_NEAR
         } else {
             LEAST_APART

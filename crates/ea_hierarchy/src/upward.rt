@@ -1,9 +1,12 @@
 //! The upward arcs over an order: a rank's upper neighbours, but for the lowest, are handed on to the lowest.
 ghost use Rattle.std.specs.Prelude.{◌≡◌, ◌≤◌, ◌<◌, ◌+◌, ◌-◌, ◌^◌, ℕ, List, IfOk, IfSome, length, map, true};
 ghost use Rattle.ea_hierarchy.specs.Growth.{IsGrown, IsMade};
+ghost use Rattle.ea_hierarchy.specs.Hierarchies.{AreParents, AreUpward, IsParent};
 ghost use Rattle.ea_hierarchy.specs.Waiting.{AreAbove};
 
-use crate::waiting::{append_once, hand_on, sort};
+use crate::numbers::NONE;
+use crate::waiting::{append_once, free_list, hand_on, sort};
+use ea_road::Network;
 use std::alloc::{AllocError, Global};
 
 /// Upward arcs: the place of each rank's first, and at the end that after the last; and their heads.
@@ -11,6 +14,8 @@ use std::alloc::{AllocError, Global};
 pub(crate) struct Upward {
     pub(crate) firsts: Vec<u32>,
     pub(crate) heads: Vec<u32>,
+    /// The lowest head of each rank, so that a way up reads one list; `NONE` if it has none.
+    pub(crate) parents: Vec<u32>,
 }
 
 /// How many upward arcs a network may have, and triangles over their lower ends, for a preparation to be worth it.
@@ -20,8 +25,20 @@ pub(crate) struct Limits {
     pub(crate) triangles: u64,
 }
 
+impl Limits {
+    /// Some for each node and arc of a network.
+    pub(crate) fn of(network: &Network) -> Limits {
+        let size = u64::from(network.nodes()) + network.arcs().len() as u64;
+        Limits {
+            arcs: (4096 + 16 * size).min(u64::from(NONE)) as u32,
+            triangles: 1_048_576 + 256 * size,
+        }
+    }
+}
+
 /// Makes the upward arcs of a rank from the heads that wait there, and hands them on; false if there are too many of them.
 fn make_arcs(
+    alloc: Global,
     rank: u32,
     most: u32,
     lists: &mut Vec<Vec<u32>>,
@@ -44,8 +61,37 @@ fn make_arcs(
         return Ok(false);
     }
     hand_on(lists, heads, first)?;
+    free_list(alloc, lists, rank as usize);
     firsts.push(heads.len() as u32)?;
     Ok(true)
+}
+
+/// The lowest head of a rank, `NONE` if it has none.
+fn parent_of(firsts: &[u32], heads: &[u32], rank: usize) -> u32
+    requires upward { AreUpward firsts.now heads.now }
+    requires few { length firsts.now < 2 ^ 32 }
+    requires rank { rank < length firsts.now - 1 }
+    ensures { IsParent firsts.now heads.now rank result }
+{
+    let first = firsts[rank];
+    if first >= firsts[rank + 1] {
+        return NONE;
+    }
+    heads[first as usize]
+}
+
+/// The parents of all ranks.
+fn parents_of(alloc: Global, firsts: &[u32], heads: &[u32]) -> Result<Vec<u32>, AllocError>
+    requires upward { AreUpward firsts.now heads.now }
+    requires few { length firsts.now < 2 ^ 32 }
+    ensures { IfOk result (λ parents. AreParents firsts.now heads.now parents.items) }
+{
+    let ranks = firsts.len() - 1;
+    let mut parents = Vec::with_capacity(alloc, ranks)?;
+    for rank in 0..ranks {
+        parents.push(parent_of(firsts, heads, rank))?;
+    }
+    Ok(parents)
 }
 
 /// The upward arcs over the heads that wait at the beginning; none if there are too many of them or of triangles.
@@ -56,8 +102,10 @@ pub(crate) fn upward_of(
 ) -> Result<Option<Upward>, AllocError>
     requires ranks { length lists.items < 2 ^ 32 - 1 }
     requires above { AreAbove (length lists.items) (map (λ l. l.items) lists.items) }
-    ensures { IfOk result (λ made. IfSome made (λ upward.
+    ensures made { IfOk result (λ made. IfSome made (λ upward.
         IsMade (map (λ l. l.items) lists.items) upward.firsts.items upward.heads.items)) }
+    ensures parents { IfOk result (λ made. IfSome made (λ upward.
+        AreParents upward.firsts.items upward.heads.items upward.parents.items)) }
 {
     let nodes = lists.len();
     let mut firsts = Vec::with_capacity(alloc, nodes + 1)?;
@@ -66,7 +114,14 @@ pub(crate) fn upward_of(
     firsts.push(0)?;
     for rank in 0..nodes as u32 {
         let before = heads.len();
-        if !make_arcs(rank, limits.arcs, &mut lists, &mut firsts, &mut heads)? {
+        if !make_arcs(
+            alloc,
+            rank,
+            limits.arcs,
+            &mut lists,
+            &mut firsts,
+            &mut heads,
+        )? {
             return Ok(None);
         }
         let arcs = heads.len().saturating_sub(before) as u64;
@@ -75,7 +130,12 @@ pub(crate) fn upward_of(
             return Ok(None);
         }
     }
-    Ok(Some(Upward { firsts, heads }))
+    let parents = parents_of(alloc, &firsts, &heads)?;
+    Ok(Some(Upward {
+        firsts,
+        heads,
+        parents,
+    }))
 }
 
 /// The most ranks that are looked at on a way up.

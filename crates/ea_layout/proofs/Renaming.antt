@@ -109,7 +109,7 @@ mapped_back numbers [] place arc at = cc
 mapped_back numbers (first ∷ arcs) zero arc at = let same : renamed_arc numbers first ≡ arc = cc in (first, refl, sym same)
 mapped_back numbers (first ∷ arcs) (suc place) arc at = mapped_back numbers arcs place arc at
 
-renamed_top : (numbers : List ℕ) (arcs : List Arc) → top_class (map (renamed_arc numbers) arcs) ≡ top_class arcs
+pub renamed_top : (numbers : List ℕ) (arcs : List Arc) → top_class (map (renamed_arc numbers) arcs) ≡ top_class arcs
 renamed_top numbers [] = refl
 renamed_top numbers (arc ∷ arcs) = ap (λ top. max arc.class top) (renamed_top numbers arcs)
 

@@ -1,8 +1,8 @@
 //! Searches on a layout, whose answers have the numbers of the network.
 ghost use Rattle.std.specs.Prelude.{◌≡◌, IfOk, length, true, false, if◌then◌else◌};
 ghost use Rattle.ea_layout.specs.Copied.{AsksFor};
-ghost use Rattle.ea_layout.specs.Laid.{CanFindLaid};
-ghost use Rattle.ea_paths.specs.Searches.{HasFoundArrivals, HasFoundWalks};
+ghost use Rattle.ea_layout.specs.Laid.{CanFindLaid, IsPreparedLaid};
+ghost use Rattle.ea_paths.specs.Searches.{CanFind, HasFound, HasFoundArrivals, HasFoundWalks};
 ghost use Rattle.ea_search.specs.Answers.{HasArrivals, IsAnswer};
 
 use crate::laid_query::laid_query;
@@ -43,6 +43,24 @@ fn room_of(nodes: u32, walks: bool) -> usize
     ensures { result ≡ (if walks then nodes else 0) }
 {
     if walks { nodes as usize } else { 0 }
+}
+
+/// Searches on a layout; for a target led by its preparation, if it has one.
+fn search_on<T: TravelTimes>(
+    search: Search,
+    alloc: Global,
+    layout: &Layout,
+    times: &T,
+    laid: &Query,
+) -> Search
+    requires can { CanFind layout.now.network (T.classes times.now) laid.now search }
+    requires prepared { IsPreparedLaid (T.answers times.now) layout.now }
+    ensures { HasFound layout.now.network (T.answers times.now) laid.now search result }
+{
+    match &layout.prepared {
+        Some(prepared) => search.find_led(alloc, &layout.network, times, prepared, laid),
+        None => search.find(&layout.network, times, laid),
+    }
 }
 
 impl LaidSearch {
@@ -94,13 +112,15 @@ impl LaidSearch {
     /// Answers a query without walks.
     fn arrivals<T: TravelTimes>(
         self,
+        alloc: Global,
         network: &Network,
         layout: &Layout,
         times: &T,
         query: &Query,
         laid: &Query,
     ) -> LaidSearch
-        requires can { CanFindLaid network.now layout.now (T.classes times.now) query.now self }
+        requires can { CanFindLaid network.now (T.answers times.now) layout.now (T.classes times.now)
+            query.now self }
         requires asks { AsksFor layout.now.places.items query.now laid.now }
         ensures { HasFoundArrivals network.now (T.answers times.now) query.now self result }
     {
@@ -116,7 +136,7 @@ impl LaidSearch {
             links,
             listed,
         };
-        let search = search.find_arrivals(&layout.network, times, laid);
+        let search = search_on(search, alloc, layout, times, laid);
         written.write_labels(&layout.places, query.target(), search.answer().labels());
         let Written {
             labels,
@@ -133,13 +153,15 @@ impl LaidSearch {
     /// Answers a query with its canonical walks.
     fn walks<T: TravelTimes>(
         self,
+        alloc: Global,
         network: &Network,
         layout: &Layout,
         times: &T,
         query: &Query,
         laid: &Query,
     ) -> LaidSearch
-        requires can { CanFindLaid network.now layout.now (T.classes times.now) query.now self }
+        requires can { CanFindLaid network.now (T.answers times.now) layout.now (T.classes times.now)
+            query.now self }
         requires asks { AsksFor layout.now.places.items query.now laid.now }
         requires walks { self.walks ≡ true }
         ensures { HasFoundWalks network.now (T.answers times.now) query.now self.nodes result }
@@ -156,7 +178,7 @@ impl LaidSearch {
             links,
             listed,
         };
-        let search = search.find_walks(&layout.network, times, laid);
+        let search = search_on(search, alloc, layout, times, laid);
         written.write_labels(&layout.places, query.target(), search.answer().labels());
         written.write_links(layout, query.target(), search.answer().links());
         let Written {
@@ -171,8 +193,8 @@ impl LaidSearch {
         }
     }
 
-    /// Answers a query without walks. The search is consumed and returned with its answer. An error comes only
-    /// if memory for the sources of a query with several was refused.
+    /// Answers a query without walks; for a target it is led by the layout's preparation, if it has one. The search is consumed and returned
+    /// with its answer. An error comes only if memory for the sources of a query with several was refused.
     pub fn find_arrivals<T: TravelTimes>(
         self,
         alloc: Global,
@@ -181,7 +203,8 @@ impl LaidSearch {
         times: &T,
         query: &Query,
     ) -> Result<LaidSearch, AllocError>
-        requires { CanFindLaid network.now layout.now (T.classes times.now) query.now self }
+        requires { CanFindLaid network.now (T.answers times.now) layout.now (T.classes times.now)
+            query.now self }
         ensures arrivals { IfOk result (λ laid.
             HasArrivals network.now (T.answers times.now) query.now laid.answer) }
         ensures none { IfOk result (λ laid. laid.answer.walks ≡ false) }
@@ -189,7 +212,7 @@ impl LaidSearch {
             (laid.nodes ≡ self.nodes) × (laid.walks ≡ self.walks)) }
     {
         let laid = laid_query(alloc, &layout.places, query)?;
-        Ok(self.arrivals(network, layout, times, query, &laid))
+        Ok(self.arrivals(alloc, network, layout, times, query, &laid))
     }
 
     /// Answers a query with its canonical walks. Else like `find_arrivals`.
@@ -201,13 +224,14 @@ impl LaidSearch {
         times: &T,
         query: &Query,
     ) -> Result<LaidSearch, AllocError>
-        requires can { CanFindLaid network.now layout.now (T.classes times.now) query.now self }
+        requires can { CanFindLaid network.now (T.answers times.now) layout.now (T.classes times.now)
+            query.now self }
         requires walks { self.walks ≡ true }
         ensures answer { IfOk result (λ laid.
             IsAnswer network.now (T.answers times.now) query.now laid.answer) }
         ensures room { IfOk result (λ laid. (laid.nodes ≡ self.nodes) × (laid.walks ≡ true)) }
     {
         let laid = laid_query(alloc, &layout.places, query)?;
-        Ok(self.walks(network, layout, times, query, &laid))
+        Ok(self.walks(alloc, network, layout, times, query, &laid))
     }
 }

@@ -1,11 +1,17 @@
 //! A network whose nodes are renumbered so that neighbours are near.
-ghost use Rattle.std.specs.Prelude.{◌≡◌, IfOk, IfSome, length, map};
-ghost use Rattle.ea_layout.specs.Orders.{LaysOut};
+ghost use Rattle.std.specs.Prelude.{◌≡◌, ◌≤◌, IfErr, IfOk, IfSome, IsTrue, None, is_some, length, map};
+ghost use Rattle.ea_hierarchy.specs.declared.unprepared.Unprepared.TheVariants.{NoOrder};
+ghost use Rattle.ea_layout.specs.Laid.{IsPreparedLaid};
+ghost use Rattle.ea_layout.specs.Orders.{AreAllPlaced, LaysOut};
 ghost use Rattle.ea_layout.specs.Renamed.{renamed_arc};
-ghost use Rattle.ea_road.specs.Roads.{IsNode};
+ghost use Rattle.ea_road.specs.Roads.{IsNode, top_class};
 
 use crate::depth_first::depth_first;
+use crate::given_order::in_order;
+use crate::order::Order;
+use ea_hierarchy::{Prepared, Unprepared, elimination_order};
 use ea_road::{Arc, Network};
+use ea_travel_times::TravelTimes;
 use std::alloc::{AllocError, Global};
 
 /// With fewer nodes, what a search touches is near in any order.
@@ -27,6 +33,8 @@ pub struct Layout {
     pub nodes: Vec<u32>,
     /// The network under the new numbers.
     pub network: Network,
+    /// Its preparation for pairs, if it has one.
+    pub prepared: Option<Prepared>,
 }
 
 /// How many of some arcs are short, and how many are not.
@@ -88,21 +96,67 @@ impl Layout {
     /// node beside the network's own copy, and for a while up to 16 bytes more for each arc. An error comes
     /// only if memory was refused.
     pub fn new(alloc: Global, network: &Network) -> Result<Layout, AllocError>
-        ensures { IfOk result (λ layout. LaysOut network.now layout) }
+        ensures laid_out { IfOk result (λ layout. LaysOut network.now layout) }
+        ensures none { IfOk result (λ layout. layout.prepared ≡ None) }
     {
-        let (places, nodes) = depth_first(alloc, network)?.into_parts();
+        let order = depth_first(alloc, network)?;
+        Layout::by(alloc, network, order)
+    }
+
+    /// A network in an order of elimination, prepared for pairs: the upward arcs of a node, its arcs and its neighbours lie near to one
+    /// another. `NotWorth` comes if there are too many upward arcs or triangles for the network's size, `OutOfMemory` if memory was refused.
+    pub fn prepare<T: TravelTimes>(
+        alloc: Global,
+        network: &Network,
+        times: &T,
+    ) -> Result<Layout, Unprepared>
+        requires { top_class network.now.arcs ≤ T.classes times.now }
+        ensures laid_out { IfOk result (λ layout. LaysOut network.now layout) }
+        ensures is_there { IfOk result (λ layout. IsTrue (is_some layout.prepared)) }
+        ensures prepared { IfOk result (IsPreparedLaid (T.answers times.now)) }
+        ensures refused { IfErr result (λ why. why ≡ NoOrder → ⊥) }
+    {
+        let list = elimination_order(alloc, network)?;
+        let order = in_order(alloc, network, &list)?;
+        drop(list);
+        let laid = Layout::by(alloc, network, order)?;
+        let prepared = Prepared::by_numbers(alloc, &laid.network, times)?;
+        let Layout {
+            places,
+            nodes,
+            network,
+            ..
+        } = laid;
+        Ok(Layout {
+            places,
+            nodes,
+            network,
+            prepared: Some(prepared),
+        })
+    }
+
+    /// A network in an order of all its nodes.
+    fn by(alloc: Global, network: &Network, order: Order) -> Result<Layout, AllocError>
+        requires nodes { length order.places ≡ network.now.nodes }
+        requires all { AreAllPlaced order.places }
+        ensures laid_out { IfOk result (λ layout. LaysOut network.now layout) }
+        ensures none { IfOk result (λ layout. layout.prepared ≡ None) }
+    {
+        let (places, nodes) = order.into_parts();
         let arcs = renamed_arcs(alloc, &places, network)?;
         let network = Network::new(alloc, network.nodes(), arcs)?;
         Ok(Layout {
             places,
             nodes,
             network,
+            prepared: None,
         })
     }
 
     /// Like `new`; none if it isn't likely to pay.
     pub fn of(alloc: Global, network: &Network) -> Result<Option<Layout>, AllocError>
-        ensures { IfOk result (λ found. IfSome found (λ layout. LaysOut network.now layout)) }
+        ensures laid_out { IfOk result (λ found. IfSome found (λ layout. LaysOut network.now layout)) }
+        ensures none { IfOk result (λ found. IfSome found (λ layout. layout.prepared ≡ None)) }
     {
         if !Layout::pays(network) {
             return Ok(None);

@@ -2,6 +2,7 @@
 #![tactic(auto)]
 
 mod depth_first;
+mod given_order;
 mod laid_query;
 mod laid_search;
 pub mod laws;

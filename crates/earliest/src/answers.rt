@@ -139,7 +139,6 @@ pub(crate) fn answer_watched<
         None => layout_for(alloc, rt, &files.road, queries.len(), options),
     };
     let aids = Aids {
-        prepared: None,
         layout: layout.as_ref(),
     };
     let watched = Watched { shown, aids, watch };
@@ -220,13 +219,12 @@ pub(crate) fn pairs_watched<
         }
     };
     let shown = shown_by(options, &extras);
-    let prepared = prepared_for(alloc, rt, &files.road, &queries, options, watch);
+    let layout = prepared_for(alloc, rt, &files.road, &queries, options, watch);
     let aids = Aids {
-        prepared: prepared.as_ref(),
-        layout: None,
+        layout: layout.as_ref(),
     };
     let watched = Watched { shown, aids, watch };
     let answered = report_all(alloc, rt, &files.road, &queries, options, watched, out);
-    drop((files, extras, queries, prepared));
+    drop((files, extras, queries, layout));
     answered
 }

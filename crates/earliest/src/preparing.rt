@@ -1,14 +1,12 @@
-//! What is made of a road before it is searched: a preparation for pairs, a layout for many problems.
+//! What is made of a road before it is searched: a layout for many problems, a prepared one for pairs.
 ghost use Rattle.std.specs.Prelude.{◌≡◌, ◌<◌, IfSome};
-ghost use Rattle.ea_layout.specs.Orders.{LaysOut};
 ghost use Rattle.ea_load.specs.Posed.{AreProblems, IsPosed};
 ghost use Rattle.ea_options.specs.Limits.{AreOptions};
-ghost use Rattle.ea_batch.specs.Solved.{IsPreparedOn};
+ghost use Rattle.ea_batch.specs.Solved.{IsLaidOut};
 ghost use Rattle.earliest.specs.Choices.{CanPrepare, are_many, pays_for};
 
 use crate::solver_choice::{asks_for_workers, threads_at_once};
 use ea_base::{Direction, Watch};
-use ea_hierarchy::Prepared;
 use ea_layout::Layout;
 use ea_load::Road;
 use ea_options::RunOptions;
@@ -81,34 +79,34 @@ fn is_worth<H: Threads>(
     }
 }
 
-/// A preparation of a road that is turned round, if it can be made: of the turned travel times, whose least ones are those
+/// A prepared layout of a road that is turned round, if it can be made: of the turned travel times, whose least ones are those
 /// of the timetables.
-fn prepare_turned(alloc: Global, road: &Road, query: &Query) -> Option<Prepared>
+fn prepare_turned(alloc: Global, road: &Road, query: &Query) -> Option<Layout>
     requires posed { IsPosed road.now query.now }
     requires turned { road.now.times.direction ≡ Direction.Turned }
-    ensures { IfSome result (IsPreparedOn road.now) }
+    ensures { IfSome result (IsLaidOut road.now) }
 {
-    match Prepared::of(alloc, &road.network, &Turned::of(&road.times.tables)) {
-        Ok(prepared) => Some(prepared),
+    match Layout::prepare(alloc, &road.network, &Turned::of(&road.times.tables)) {
+        Ok(layout) => Some(layout),
         Err(_) => None,
     }
 }
 
-/// A preparation of the road, if it can be made.
-fn prepare(alloc: Global, road: &Road, query: &Query) -> Option<Prepared>
+/// A prepared layout of the road, if it can be made.
+fn prepare(alloc: Global, road: &Road, query: &Query) -> Option<Layout>
     requires { IsPosed road.now query.now }
-    ensures { IfSome result (IsPreparedOn road.now) }
+    ensures { IfSome result (IsLaidOut road.now) }
 {
     match road.times.direction {
-        Direction::Forward => match Prepared::of(alloc, &road.network, &road.times) {
-            Ok(prepared) => Some(prepared),
+        Direction::Forward => match Layout::prepare(alloc, &road.network, &road.times) {
+            Ok(layout) => Some(layout),
             Err(_) => None,
         },
         Direction::Turned => prepare_turned(alloc, road, query),
     }
 }
 
-/// A preparation of the road for searches of pairs, if it is asked for, or if it pays and isn't excluded, and if it can be
+/// A prepared layout of the road for searches of pairs, if it is asked for, or if it pays and isn't excluded, and if it can be
 /// made. Workers and statistics do without. The watch learns of it first.
 pub(crate) fn prepared_for<H: Threads, V: Watch>(
     alloc: Global,
@@ -117,9 +115,9 @@ pub(crate) fn prepared_for<H: Threads, V: Watch>(
     queries: &[Query],
     options: &RunOptions,
     watch: &mut V,
-) -> Option<Prepared>
+) -> Option<Layout>
     requires can { CanPrepare road.now queries.now options.now }
-    ensures { IfSome result (IsPreparedOn road.now) }
+    ensures { IfSome result (IsLaidOut road.now) }
 {
     if asks_for_workers(options) || queries.is_empty() {
         return None;
@@ -153,7 +151,7 @@ pub(crate) fn layout_for<H: Threads>(
     options: &RunOptions,
 ) -> Option<Layout>
     requires { AreOptions options.now }
-    ensures { IfSome result (λ layout. LaysOut road.now.network layout) }
+    ensures { IfSome result (IsLaidOut road.now) }
 {
     if asks_for_workers(options) {
         return None;

@@ -1,4 +1,5 @@
 //! Answers on a layout, compared with those of plain searches.
+ghost use Rattle.ea_layout.specs.Laid.{IsPreparedLaid};
 ghost use Rattle.ea_layout.specs.Orders.{LaysOut};
 ghost use Rattle.ea_road.specs.Queries.{IsProblem};
 
@@ -84,7 +85,35 @@ fn compare_with_plain<T: TravelTimes>(
     compare(alloc, search.answer(), laid, count)
 }
 
-/// Two queries in turn on the same arrays, with walks and without.
+/// Two queries in turn on the same arrays, with walks and without, on a layout.
+fn compare_on<T: TravelTimes>(
+    alloc: Global,
+    network: &Network,
+    layout: &Layout,
+    times: &T,
+    first: &Query,
+    second: &Query,
+    count: &mut Count,
+) -> Result<(), AllocError>
+    requires laid_out { LaysOut network.now layout.now }
+    requires prepared { IsPreparedLaid (T.answers times.now) layout.now }
+    requires first { IsProblem network.now (T.classes times.now) first.now }
+    requires second { IsProblem network.now (T.classes times.now) second.now }
+{
+    let laid = LaidSearch::reserve(alloc, network.nodes())?;
+    let laid = laid.find_walks(alloc, network, layout, times, first)?;
+    compare_with_plain(alloc, network, times, first, laid.answer(), count)?;
+    let laid = laid.find_walks(alloc, network, layout, times, second)?;
+    compare_with_plain(alloc, network, times, second, laid.answer(), count)?;
+    let laid = laid.find_arrivals(alloc, network, layout, times, first)?;
+    compare_with_plain(alloc, network, times, first, laid.answer(), count)?;
+    let laid = laid.find_arrivals(alloc, network, layout, times, second)?;
+    compare_with_plain(alloc, network, times, second, laid.answer(), count)?;
+    let laid = laid.find_walks(alloc, network, layout, times, second)?;
+    compare_with_plain(alloc, network, times, second, laid.answer(), count)
+}
+
+/// The same on a layout in depth-first order, and on a prepared one.
 pub fn compare_in_turn<T: TravelTimes>(
     alloc: Global,
     network: &Network,
@@ -97,20 +126,41 @@ pub fn compare_in_turn<T: TravelTimes>(
     requires second { IsProblem network.now (T.classes times.now) second.now }
 {
     let layout = Layout::new(alloc, network)?;
-    let laid = LaidSearch::reserve(alloc, network.nodes())?;
-    let laid = laid.find_walks(alloc, network, &layout, times, first)?;
-    compare_with_plain(alloc, network, times, first, laid.answer(), count)?;
-    let laid = laid.find_walks(alloc, network, &layout, times, second)?;
+    compare_on(alloc, network, &layout, times, first, second, count)?;
+    match Layout::prepare(alloc, network, times) {
+        Ok(layout) => compare_on(alloc, network, &layout, times, first, second, count),
+        Err(_) => {
+            count.differ = count.differ.wrapping_add(1);
+            Ok(())
+        }
+    }
+}
+
+/// Two queries in turn on arrays without room for walks, on a layout.
+fn compare_arrivals_on<T: TravelTimes>(
+    alloc: Global,
+    network: &Network,
+    layout: &Layout,
+    times: &T,
+    first: &Query,
+    second: &Query,
+    count: &mut Count,
+) -> Result<(), AllocError>
+    requires laid_out { LaysOut network.now layout.now }
+    requires prepared { IsPreparedLaid (T.answers times.now) layout.now }
+    requires first { IsProblem network.now (T.classes times.now) first.now }
+    requires second { IsProblem network.now (T.classes times.now) second.now }
+{
+    let laid = LaidSearch::reserve_without_walks(alloc, network.nodes())?;
+    let laid = laid.find_arrivals(alloc, network, layout, times, second)?;
     compare_with_plain(alloc, network, times, second, laid.answer(), count)?;
-    let laid = laid.find_arrivals(alloc, network, &layout, times, first)?;
+    let laid = laid.find_arrivals(alloc, network, layout, times, first)?;
     compare_with_plain(alloc, network, times, first, laid.answer(), count)?;
-    let laid = laid.find_arrivals(alloc, network, &layout, times, second)?;
-    compare_with_plain(alloc, network, times, second, laid.answer(), count)?;
-    let laid = laid.find_walks(alloc, network, &layout, times, second)?;
+    let laid = laid.find_arrivals(alloc, network, layout, times, second)?;
     compare_with_plain(alloc, network, times, second, laid.answer(), count)
 }
 
-/// The same on arrays without room for walks.
+/// The same on a layout in depth-first order, and on a prepared one.
 pub fn compare_arrivals<T: TravelTimes>(
     alloc: Global,
     network: &Network,
@@ -123,11 +173,12 @@ pub fn compare_arrivals<T: TravelTimes>(
     requires second { IsProblem network.now (T.classes times.now) second.now }
 {
     let layout = Layout::new(alloc, network)?;
-    let laid = LaidSearch::reserve_without_walks(alloc, network.nodes())?;
-    let laid = laid.find_arrivals(alloc, network, &layout, times, second)?;
-    compare_with_plain(alloc, network, times, second, laid.answer(), count)?;
-    let laid = laid.find_arrivals(alloc, network, &layout, times, first)?;
-    compare_with_plain(alloc, network, times, first, laid.answer(), count)?;
-    let laid = laid.find_arrivals(alloc, network, &layout, times, second)?;
-    compare_with_plain(alloc, network, times, second, laid.answer(), count)
+    compare_arrivals_on(alloc, network, &layout, times, first, second, count)?;
+    match Layout::prepare(alloc, network, times) {
+        Ok(layout) => compare_arrivals_on(alloc, network, &layout, times, first, second, count),
+        Err(_) => {
+            count.differ = count.differ.wrapping_add(1);
+            Ok(())
+        }
+    }
 }

@@ -15,12 +15,12 @@ upward_of-requires-clause-above c =
 
 pub returns-in-Some-clause-upward : goal.returns-in-Some-clause-upward
 returns-in-Some-clause-upward c =
-    let made = rw c.in-Some.is at c.in_ok-upward.ensures in
+    let made = rw c.in-Some.is at c.in_ok-upward.ensures.made in
     let count = made.upward.count in
     let same : length (map {B = List ℕ} (λ l. l.items) c.in_ok-lists.lists.items) ≡ length c.in-Some.upward.firsts.items - 1 = omega (arith, count) in
     subst (λ n. IsUpward n c.in-Some.upward.firsts.items c.in-Some.upward.heads.items) same made.upward
 
 pub returns-in-Some-clause-joined : goal.returns-in-Some-clause-joined
 returns-in-Some-clause-joined c =
-    let made = rw c.in-Some.is at c.in_ok-upward.ensures in
+    let made = rw c.in-Some.is at c.in_ok-upward.ensures.made in
     joined_of c.args.network.now c.args.ranks.now c.in-Some.upward.firsts.items c.in-Some.upward.heads.items (map (λ l. l.items) c.in_ok-lists.lists.items) c.in_ok-lists.ensures.arcs made.kept

@@ -1,7 +1,7 @@
-use Rattle.std.proofs.Common.{arith, ap, length, map, sym, subst, ◌≡◌, ◌<◌, ◌∙◌, ℕ, List}
+use Rattle.std.proofs.Common.{arith, ap, [], ◌∷◌, ◌++◌, ◌+◌, length, map, sym, subst, ◌≡◌, ◌<◌, ◌∙◌, ℕ, List}
 use Rattle.std.specs.Prelude.{slice_index}
 use Rattle.ea_hierarchy.specs.Waiting.{Appends, HandsOn, list_at}
-use Rattle.ea_hierarchy.proofs.Growing.{grown_more}
+use Rattle.ea_hierarchy.proofs.Growing.{freed_grown, grown_more}
 use Rattle.ea_hierarchy.proofs.Listing.{appended_below, count_of, list_is, waits_at}
 use Rattle.ea_hierarchy.proofs.upward.make_arcs.Goals as goal
 
@@ -33,4 +33,6 @@ returns c = λ begin grown more.
     let appends : Appends (list_at ordered c.args.rank) c.args.heads.now.items c.append_once.new.heads.items = subst (λ (xs : List ℕ). Appends xs c.args.heads.now.items c.append_once.new.heads.items) list c.in_ok-append_once.ensures in
     let hands : HandsOn ordered after c.append_once.new.heads.items (length c.args.heads.now.items) = subst (λ n. HandsOn ordered after c.append_once.new.heads.items n) first (subst (λ (xs : List ℕ). HandsOn ordered after xs c.len-first.result) c.deref-2.ensures.value c.in_ok-hand_on.ensures) in
     let last : c.len-2.result ≡ length c.append_once.new.heads.items = omega (arith, c.len-2.ensures) in
-    rw (c.in_ok-push.ensures.items, last) (grown_more (length c.args.lists.now.items) c.args.rank begin (map (λ l. l.items) c.args.lists.now.items) ordered after c.args.firsts.now.items c.args.heads.now.items c.append_once.new.heads.items grown c.requires.rank c.sort.ensures appends hands)
+    let nodes = length c.args.lists.now.items in
+    let more_arcs = grown_more (length c.args.lists.now.items) c.args.rank begin (map (λ l. l.items) c.args.lists.now.items) ordered after c.args.firsts.now.items c.args.heads.now.items c.append_once.new.heads.items grown c.requires.rank c.sort.ensures appends hands in
+    rw (c.in_ok-push.ensures.items, last) (freed_grown nodes (c.args.rank + 1) c.args.rank begin after (map (λ l. l.items) c.free_list.new.lists.items) (c.args.firsts.now.items ++ length c.append_once.new.heads.items ∷ []) c.append_once.new.heads.items (omega arith) more_arcs c.free_list.ensures)

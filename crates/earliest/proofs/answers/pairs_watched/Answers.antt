@@ -63,8 +63,8 @@ pair_queries-requires-clause-within g c =
     let fits : IsTrue c.departures_fit.result = search rules in
     λ i inside. c.departures_fit.ensures.0 fits i (omega (arith, inside, c.deref.ensures.len, c.len-2.ensures))
 
-pub prepared_for-prepared-requires : goal.prepared_for-prepared-requires
-prepared_for-prepared-requires g c =
+pub prepared_for-layout-requires : goal.prepared_for-layout-requires
+prepared_for-layout-requires g c =
     let o = c.args.options.now in
     let given = c.in_ok-files.ensures.given in
     let found = c.in_ok-files.files in

@@ -1,4 +1,4 @@
-use Rattle.std.proofs.Common.{arith, ap, length, subst, sym, ◌-◌, ◌≡◌, ◌∙◌}
+use Rattle.std.proofs.Common.{arith, ap, length, subst, sym, ◌-◌, ◌≡◌}
 use Rattle.ea_hierarchy.specs.Bounds.{AreBoundsTo}
 use Rattle.ea_hierarchy.specs.Cells.{reach_of}
 use Rattle.ea_hierarchy.specs.Hierarchies.{Hierarchy, rank_of}

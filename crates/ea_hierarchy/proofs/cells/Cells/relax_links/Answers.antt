@@ -1,7 +1,7 @@
-use Rattle.std.proofs.Common.{ℕ, ap, sym, subst, ◌∙◌, arith, length}
+use Rattle.std.proofs.Common.{ℕ, ap, sym, subst, ◌∙◌, arith}
 use Rattle.std.specs.Prelude.{slice_index_or}
 use Rattle.std.proofs.lemmas.List.{get_or_default}
-use Rattle.ea_hierarchy.specs.Cells.{AreWithin, IsSameAbove, LowersReach, RelaxesLinks}
+use Rattle.ea_hierarchy.specs.Cells.{AreWithin, IsSameAbove, LowersReach}
 use Rattle.ea_hierarchy.specs.Numbers.{plus}
 use Rattle.ea_hierarchy.specs.declared.cells.Aim.{Aim}
 use Rattle.ea_hierarchy.specs.declared.trimmed.Link.{Link}

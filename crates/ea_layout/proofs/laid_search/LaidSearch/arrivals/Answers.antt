@@ -6,8 +6,8 @@ use Rattle.ea_layout.proofs.Copying.{copied_arrivals}
 use Rattle.ea_layout.proofs.Renaming.{problem_laid}
 use Rattle.ea_layout.proofs.laid_search.LaidSearch.arrivals.Goals as goal
 
-pub find_arrivals-search-requires : goal.find_arrivals-search-requires
-find_arrivals-search-requires g c =
+pub search_on-search-requires-clause-can : goal.search_on-search-requires-clause-can
+search_on-search-requires-clause-can g c =
     let it = c.requires in
     let reverse = it.can.laid_out.reverse in
     record {
@@ -33,7 +33,7 @@ returns g c =
     let reverse = it.can.laid_out.reverse in
     let long = reverse.there_length in
     let answers = g.T.TravelTimes.answers c.args.times.now in
-    let answer = c.find_arrivals-search.result.answer in
-    let has = subst (λ (r : Roads). HasArrivals r answers c.args.laid.now answer) it.can.laid_out.network c.find_arrivals-search.ensures.arrivals in
+    let answer = c.search_on-search.result.answer in
+    let has = subst (λ (r : Roads). HasArrivals r answers c.args.laid.now answer) it.can.laid_out.network c.search_on-search.ensures.arrivals in
     let said = rw (c.deref.ensures.value, long, c.target.ensures.target, c.labels.ensures.labels, c.answer.ensures) at c.write_labels.ensures.copied in
     rw (c.new.ensures, c.nodes.ensures.nodes, c.target-2.ensures.target) (record { arrivals = (copied_arrivals c.args.network.now answers c.args.query.now c.args.laid.now c.args.layout.now.places.items c.args.layout.now.nodes.items c.keeps_limits.ensures reverse it.can.problem.sources it.asks answer c.write_labels.new.self.labels.items c.write_labels.new.self.links.items said false has); none = refl; room = search rules })

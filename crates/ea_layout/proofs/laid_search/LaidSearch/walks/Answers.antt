@@ -6,14 +6,13 @@ use Rattle.ea_layout.proofs.Copying.{copied_answer, copied_stored, laid_level}
 use Rattle.ea_layout.proofs.Renaming.{problem_laid}
 use Rattle.ea_layout.proofs.laid_search.LaidSearch.walks.Goals as goal
 
-pub find_walks-search-requires : goal.find_walks-search-requires
-find_walks-search-requires g c =
+pub search_on-search-requires-clause-can : goal.search_on-search-requires-clause-can
+search_on-search-requires-clause-can g c =
     let it = c.requires in
     let reverse = it.can.laid_out.reverse in
     record {
       problem = subst (λ (r : Roads). IsProblem r (g.T.TravelTimes.classes c.args.times.now) c.args.laid.now) (sym it.can.laid_out.network) (problem_laid c.args.network.now _ c.args.query.now c.args.laid.now c.args.layout.now.places.items c.args.layout.now.nodes.items c.keeps_limits.ensures reverse it.asks it.can.problem);
       nodes = search rules;
-      walks = search rules;
     }
 
 pub write_labels-requires : goal.write_labels-requires
@@ -34,8 +33,8 @@ write_links-requires g c =
     let reverse = it.can.laid_out.reverse in
     let long = reverse.there_length in
     let answers = g.T.TravelTimes.answers c.args.times.now in
-    let answer = c.find_walks-search.result.answer in
-    let has = subst (λ (r : Roads). IsAnswer r answers c.args.laid.now answer) it.can.laid_out.network c.find_walks-search.ensures.answer in
+    let answer = c.search_on-search.result.answer in
+    let has = subst (λ (r : Roads). IsAnswer r answers c.args.laid.now answer) it.can.laid_out.network (c.search_on-search.ensures.answer (search rules)) in
     let said = rw (c.deref.ensures.value, long, c.target.ensures.target, c.labels.ensures.labels, c.answer.ensures) at c.write_labels.ensures.copied in
     let stored = rw c.answer.ensures at c.labels.ensures.stored in
     record {
@@ -57,8 +56,8 @@ new-requires g c =
     let reverse = it.can.laid_out.reverse in
     let long = reverse.there_length in
     let answers = g.T.TravelTimes.answers c.args.times.now in
-    let answer = c.find_walks-search.result.answer in
-    let has = subst (λ (r : Roads). IsAnswer r answers c.args.laid.now answer) it.can.laid_out.network c.find_walks-search.ensures.answer in
+    let answer = c.search_on-search.result.answer in
+    let has = subst (λ (r : Roads). IsAnswer r answers c.args.laid.now answer) it.can.laid_out.network (c.search_on-search.ensures.answer (search rules)) in
     let stored = rw c.answer.ensures at c.labels.ensures.stored in
     let many : length answer.links ≡ c.args.network.now.nodes = stored.links has.walks ∙ has.arrivals.nodes in
     let said = rw (c.deref.ensures.value, long, c.target.ensures.target, c.labels.ensures.labels, c.answer.ensures, ← c.write_links.ensures.labels) at c.write_labels.ensures.copied in
@@ -72,8 +71,8 @@ returns g c =
     let reverse = it.can.laid_out.reverse in
     let long = reverse.there_length in
     let answers = g.T.TravelTimes.answers c.args.times.now in
-    let answer = c.find_walks-search.result.answer in
-    let has = subst (λ (r : Roads). IsAnswer r answers c.args.laid.now answer) it.can.laid_out.network c.find_walks-search.ensures.answer in
+    let answer = c.search_on-search.result.answer in
+    let has = subst (λ (r : Roads). IsAnswer r answers c.args.laid.now answer) it.can.laid_out.network (c.search_on-search.ensures.answer (search rules)) in
     let stored = rw c.answer.ensures at c.labels.ensures.stored in
     let many : length answer.links ≡ c.args.network.now.nodes = stored.links has.walks ∙ has.arrivals.nodes in
     let said = rw (c.deref.ensures.value, long, c.target.ensures.target, c.labels.ensures.labels, c.answer.ensures, ← c.write_links.ensures.labels) at c.write_labels.ensures.copied in
