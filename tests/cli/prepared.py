@@ -160,19 +160,19 @@ def in_less_time(program, folder):
 
 
 def near_pairs(program, folder):
-    """Near pairs on a prepared road take about the processor time of a search without: what 2,000 more pairs add. Were each led by bounds,
-    it would be ten times as much."""
+    """Near pairs on a prepared road take about the processor time of a search without: what 4,000 more pairs add. Were each led by bounds, or
+    all labels put back after each, it would be ten times as much."""
     words = random.Random(8)
-    side, near, added, reports = 500, 8, {}, {}
+    side, near, added, reports = 700, 8, {}, {}
     write(folder, "gr", graph(side * side, grid(side, words)))
     asked = []
-    for _ in range(4_000):
+    for _ in range(8_000):
         row, column = words.randint(0, side - near - 1), words.randint(0, side - near - 1)
         asked.append(f"q {row * side + column + 1} {(row + words.randint(1, near)) * side + column + words.randint(1, near) + 1}\n")
     write(folder, "all", [f"p aux sp p2p {len(asked)}\n", *asked])
     told = ran(program, "pairs gr all --prepare no", folder)[1].split(b"\n")[1::2]
     # The search for a target that can't be reached goes everywhere.
-    asked = [line for line, said in zip(asked, told) if not said.endswith(b"inf")][:2_001]
+    asked = [line for line, said in zip(asked, told) if not said.endswith(b"inf")][:4_001]
     for name, lines in (("one", asked[:1]), ("all", asked)):
         write(folder, name, [f"p aux sp p2p {len(lines)}\n", *lines])
     for word in ("yes", "no"):
@@ -181,7 +181,7 @@ def near_pairs(program, folder):
             runs = [processor_seconds(program, f"pairs gr {name} --prepare {word} --at-once 1", folder) for _ in range(3)]
             took[name], reports[word, name] = min(it[2] for it in runs), {it[:2] for it in runs}
         added[word] = took["all"] - took["one"]
-    yield "near pairs on a prepared road: the same report", (len(asked), len(reports["yes", "all"]), reports["yes", "all"] == reports["no", "all"]), (2_001, 1, True)
+    yield "near pairs on a prepared road: the same report", (len(asked), len(reports["yes", "all"]), reports["yes", "all"] == reports["no", "all"]), (4_001, 1, True)
     yield "near pairs on a prepared road: about the same time", added["yes"] <= 4 * added["no"] + 0.2 or added, True
 
 

@@ -290,6 +290,29 @@ def layouts(program, folder):
     yield "resources: a grid numbered at random, two nodes of sixteen problems: not laid out", scattered <= 1.25 * rows or (rows, scattered), True
 
 
+def used_layouts(program, folder):
+    """What 32 problems add on a grid of 10^6 nodes numbered at random, for two searching threads, is little more than if it is numbered row by
+    row. Were the layout made and not used, it would be two to three times as much."""
+    side, rng, added = 1_000, random.Random(10), []
+    numbers = list(range(1, side * side + 1))
+    write(folder, "first.ss", ["p aux sp ss 1\n", "s 5\n"])
+    write(folder, "32.ss", ["p aux sp ss 32\n", *[f"s {30_000 * at}\n" for at in range(1, 33)]])
+    # Too many nodes for a search that ends with them, and few lines to write.
+    write(folder, "some.ss", [f"p aux sp ss {side * side // 64 + 1}\n", *[f"s {at}\n" for at in range(1, side * side // 64 + 2)]])
+    for name in ("rows", "random"):
+        if name == "random":
+            rng.shuffle(numbers)
+        with open(os.path.join(folder, "large.gr"), "w", encoding="ascii") as file:
+            file.write(f"p sp {side * side} {4 * side * (side - 1)}\n")
+            for at in range(side * side):
+                for other in ([at + 1] if (at + 1) % side else []) + ([at + side] if at + side < side * side else []):
+                    weight = 1 + (at * 7 + other) % 97
+                    file.write(f"a {numbers[at]} {numbers[other]} {weight}\na {numbers[other]} {numbers[at]} {weight}\n")
+        one, many = (min(ran(program, f"run large.gr {sources}.ss --at-once 2 --nodes some.ss", folder)[2] for _ in range(2)) for sources in ("first", "32"))
+        added.append(many - one)
+    yield "resources: 32 problems on a grid numbered at random: about the time of one in rows", added[1] <= 1.8 * added[0] or added, True
+
+
 def preparations(program, folder):
     """Pairs on a grid of 40,000 nodes: hundreds of them are worth a preparation if one thread searches them, forty aren't, nor hundreds that
     eight threads share. The upward arcs show in the memory."""
@@ -309,5 +332,5 @@ def preparations(program, folder):
 def results(program):
     """Each measure with whether it holds, or its figures, and True."""
     with tempfile.TemporaryDirectory(prefix="resources-") as folder:
-        for part in (network, directions, slow_reader, after_a_fault, made_once, long_walks, shared_walks, alone, near_problems, long_lines, many_steps, hard_shapes, layouts, preparations):
+        for part in (network, directions, slow_reader, after_a_fault, made_once, long_walks, shared_walks, alone, near_problems, long_lines, many_steps, hard_shapes, layouts, used_layouts, preparations):
             yield from part(program, folder)
