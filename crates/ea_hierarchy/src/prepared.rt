@@ -99,10 +99,13 @@ const LEAST_APART: u32 = 350;
 const ARCS_A_NODE: u64 = 64;
 
 /// Ranks are close if they differ by less than this many times `LEAST_NEAR`.
-const RANKS_A_NODE: u32 = 16;
+const RANKS_A_NODE: u32 = 4;
 
-/// If there are large cuts, and ranks differ by more than this part of all ranks, only this part of those nodes are near.
+/// If there are large cuts, and ranks differ by more than this part of all ranks, fewer nodes are near.
 const PARTS: u32 = 8;
+
+/// The part of them that is near then.
+const FEWER: u32 = 4;
 
 /// How many nodes a search without bounds may scan in less than the time of a first bound.
 fn near_by(upward: &Upward) -> u32 {
@@ -296,7 +299,7 @@ impl Prepared {
         let apart = self.rank(source).abs_diff(self.rank(target));
         if self.has_large_cuts() {
             let is_far = apart > self.nodes() / PARTS;
-            return if is_far { self.near / PARTS } else { self.near };
+            return if is_far { self.near / FEWER } else { self.near };
         }
         if apart < LEAST_NEAR * RANKS_A_NODE {
             LEAST_NEAR

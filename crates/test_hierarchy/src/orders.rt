@@ -346,8 +346,8 @@ fn near_in(
 #[test]
 fn nodes_are_near_by_their_ranks_if_ways_up_are_short(rt: HostRuntime) -> Result<(), Fail> {
     let alloc = rt.alloc();
-    for (target, wanted) in [(2, 1_400), (22_400, 1_400), (22_401, 350), (23_000, 350)] {
-        let near = near_in(alloc, Shape::Path, 23_000, target).map_err(|_| "prepared")?;
+    for (target, wanted) in [(2, 1_400), (5_600, 1_400), (5_601, 350), (6_000, 350)] {
+        let near = near_in(alloc, Shape::Path, 6_000, target).map_err(|_| "prepared")?;
         assert_eq!(rt; near, Some(wanted));
     }
     Ok(())
@@ -355,10 +355,16 @@ fn nodes_are_near_by_their_ranks_if_ways_up_are_short(rt: HostRuntime) -> Result
 
 #[test]
 fn more_nodes_are_near_if_ways_up_are_long(rt: HostRuntime) -> Result<(), Fail> {
-    // 1,000 nodes that are all joined: from the ranks that are looked at there are on average 177,000 arcs to the top.
-    for target in [2, 1_000] {
+    // 1,000 nodes that are all joined: from the ranks that are looked at there are on average 177,000 arcs to the top. A fourth is near if
+    // ranks differ by more than an eighth of all.
+    for (target, least, most) in [
+        (2, 2_400, 2_800),
+        (126, 2_400, 2_800),
+        (127, 600, 700),
+        (1_000, 600, 700),
+    ] {
         let near = near_in(rt.alloc(), Shape::Clique, 1_000, target).map_err(|_| "prepared")?;
-        assert!(rt; near > Some(2_400) && near < Some(2_800));
+        assert!(rt; near > Some(least) && near < Some(most));
     }
     Ok(())
 }
