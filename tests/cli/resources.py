@@ -327,6 +327,7 @@ def preparations(program, folder):
         words = f"pairs prepared.gr {count}.p2p --at-once {at_once}"
         chosen, without = (peak(program, f"{words}{option}", folder) for option in ("", " --prepare no"))
         yield f"resources: {words}: prepared", (chosen > 1.5 * without) == is_prepared or (chosen, without), True
+        yield f"resources: {words}: no more than three times the memory of a search without", chosen <= 3 * without or (chosen, without), True
 
 
 def results(program):

@@ -306,6 +306,7 @@ emptied_frees f held place after inside none =
     let inside_map : place < length (map f held) = rw length-map inside in
     subst (λ (ls : List (List ℕ)). Frees (map f held) ls place) (sym same) (record {
       count = length-set (map f held) place [];
+      gone = here (map f held) place [] inside_map place refl;
       kept = λ low high other waits. waits_of (set (map f held) place []) low high (list_at (map f held) low) (elsewhere (map f held) place [] inside_map low other) (stands_of (map f held) low high (list_at (map f held) low) refl waits);
       came = λ low high waits. elim (came_if (map f held) place [] inside_map (λ x. ⊥) (λ x there. absurd (omega (arith, there.1))) low high waits) [
         | inl old ↦ old

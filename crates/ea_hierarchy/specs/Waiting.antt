@@ -28,9 +28,10 @@ pub record Sorts (lists after : List (List ℕ)) (rank : ℕ) : Type 0 where
   pub came : (low high : ℕ) → Waits after low high → Waits lists low high
   pub ascend : (place later : ℕ) → place ≤ later → later < length (list_at after rank) → slice_index (list_at after rank) place ≤ slice_index (list_at after rank) later
 
--- The list of a rank was freed; those of the others wait still.
+-- Nothing waits at a rank any more; at the others the same heads wait.
 pub record Frees (lists after : List (List ℕ)) (rank : ℕ) : Type 0 where
   pub count : length after ≡ length lists
+  pub gone : list_at after rank ≡ []
   pub kept : (low high : ℕ) → (low ≡ rank → ⊥) → Waits lists low high → Waits after low high
   pub came : (low high : ℕ) → Waits after low high → Waits lists low high
 

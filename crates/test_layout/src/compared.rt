@@ -3,6 +3,7 @@ ghost use Rattle.ea_layout.specs.Laid.{IsPreparedLaid};
 ghost use Rattle.ea_layout.specs.Orders.{LaysOut};
 ghost use Rattle.ea_road.specs.Queries.{IsProblem};
 
+use ea_hierarchy::Unprepared;
 use ea_layout::{LaidSearch, Layout};
 use ea_paths::{Answer, Search};
 use ea_road::{Network, Query, TravelTimes};
@@ -176,6 +177,10 @@ pub fn compare_arrivals<T: TravelTimes>(
     compare_arrivals_on(alloc, network, &layout, times, first, second, count)?;
     match Layout::prepare(alloc, network, times) {
         Ok(layout) => compare_arrivals_on(alloc, network, &layout, times, first, second, count),
-        Err(_) => Ok(()),
+        Err(Unprepared::NotWorth) => Ok(()),
+        Err(_) => {
+            count.differ = count.differ.wrapping_add(1);
+            Ok(())
+        }
     }
 }
