@@ -110,8 +110,9 @@ uint32_t earliest_road_arcs(earliest_road *road);
  * arrivals and walks are the same. It takes seconds for 10^6 nodes, once for all searches. `prepared`, another handle, holds the same road
  * with its preparation then, for every call that takes a road; it has a share of the road, which may be freed before it, and what it held
  * before is freed. Any number of searches, each on another thread, share the preparation. They begin with earliest_search_new on
- * `prepared`; those made on `road`, queries to all nodes and searches for latest departures don't use it. Refusals: EARLIEST_NO_ROAD;
- * EARLIEST_NOT_WORTH if the road has too dense a core for searches to gain, as a large grid has; 13; `prepared` is as it was then. */
+ * `prepared`; those made on `road`, and queries to all nodes, don't use it. Turned round (earliest_road_turned), `prepared` is prepared for
+ * latest departures of pairs. Refusals: EARLIEST_NO_ROAD; EARLIEST_NOT_WORTH if the road has too dense a core for searches to gain, as a
+ * large grid has; 13; `prepared` is as it was then. */
 uint32_t earliest_road_prepared(earliest_road *road, earliest_road *prepared);
 /* The same over an order of the nodes, each once, from the first that is passed over to the last: of METIS, KaHIP or InertialFlowCutter, say.
  * Any order serves; a good one makes searches quick. It takes a fraction of the time, since no order is looked for, and one order serves
@@ -158,8 +159,8 @@ uint32_t earliest_search_answers(earliest_search *search, uint64_t *out, size_t 
 void earliest_search_free(earliest_search *search);
 
 /* Turns a road round, for searches for latest departures, which share it; it takes as much memory as the road's network once more. `turned`
- * holds it then, with a share of the road, and what it held before is let go; earliest_road_free lets it go. Refusals:
- * EARLIEST_NO_ROAD, 13. */
+ * holds it then, with a share of the road, and what it held before is let go; earliest_road_free lets it go. A prepared road is prepared
+ * turned round, too, over the same order: that takes about as long as earliest_road_prepared_like. Refusals: EARLIEST_NO_ROAD, 13. */
 uint32_t earliest_road_turned(earliest_road *road, earliest_road *turned);
 /* Makes a search for latest departures on a road turned round; else like earliest_search_new. The calls of this part take such a search,
  * and those above a search made by earliest_search_new: each refuses the other sort (EARLIEST_NO_SEARCH). Both are let go by

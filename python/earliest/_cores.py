@@ -88,9 +88,9 @@ class Core:
             self._put(prepared)
 
     def _put(self, prepared: Handle) -> None:
-        self.handle, plain = prepared, self.handle
-        library().earliest_road_free(plain)
-        self.prepared = True
+        # The road that was turned round goes, too: what is turned next is the prepared one.
+        self._free()
+        self.handle, self.turned, self.prepared = prepared, Handle(), True
 
     def close(self):
         with self.lock:

@@ -141,7 +141,7 @@ class Road:
         """Prepares this road, in place, for searches of pairs: far pairs take a fraction of the time, with the same arrivals. Returns the road.
 
         It takes seconds for 10^6 nodes, in which other threads wait for the road, and it pays from some hundred far pairs on. `pairs`,
-        `profile` and the `pair` of a `searcher` made afterwards use it; searches to all nodes and latest departures don't. Roads that `named` and
+        `profile`, `latest` and the `pair` of a `searcher` made afterwards use it; searches to all nodes don't. Roads that `named` and
         `numbered` give share it, and copies, which are the road itself. A pickle leaves it out: call `prepare` in the other process.
         A second call does nothing. A road whose searches wouldn't gain is a Failure (26 NotWorth) and stays as it was, and want of memory a
         MemoryError.
@@ -350,7 +350,7 @@ class Road:
 
         `sources`, `targets` and `arrivals`, the times by which the targets have to be reached, are lists of n members; one of them in the
         place of a list serves for all. Each is found by a search from its target in the road turned round, which is made when it is first asked
-        for and takes as much memory as the road's network once more.
+        for, prepared if the road is, and takes as much memory as the road's network once more.
         """
         times = Times(unit, origin, masked, as_float)
         if arrivals is None:

@@ -117,15 +117,16 @@ def path_of(count, weight=1):
     return Network(count + 1, [(node, node + 1, weight, 0) for node in range(1, count + 1)])
 
 
-def grid(side, seed=1):
-    """The lists of a grid of streets both ways: nodes, tails, heads and weights."""
+def grid(side, seed=1, part=1.0):
+    """The lists of a grid of streets both ways, or of a part of them: nodes, tails, heads and weights."""
     words = random.Random(seed)
     tails, heads, weights = [], [], []
     for node in range(1, side * side + 1):
         for other in ([node + 1] if node % side else []) + ([node + side] if node + side <= side * side else []):
-            tails += [node, other]
-            heads += [other, node]
-            weights += [words.randint(1, 900), words.randint(1, 900)]
+            if part == 1.0 or words.random() < part:
+                tails += [node, other]
+                heads += [other, node]
+                weights += [words.randint(1, 900), words.randint(1, 900)]
     return side * side, tails, heads, weights
 
 

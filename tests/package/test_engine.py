@@ -4,9 +4,11 @@ import copy
 import gc
 import os
 import pickle
+import random
 import subprocess
 import sys
 import unittest
+from time import process_time
 
 import earliest
 import earliest.report
@@ -208,6 +210,55 @@ class Answers(Case):
         self.refused(27, lambda: first.prepare(like=second))
         self.refused(16, lambda: second.prepare(like=first))
         self.assertEqual(flat(first.pairs(sources, targets, departures)), wants[0])
+
+    def test_latest_departures_on_a_prepared_road(self):
+        for net in self.networks:
+            road, plain_one = (earliest.Road(net.gr(), net.tp()) for _ in range(2))
+            sources, targets = ([it % 40 + 1 for it in range(at, at + 120)] for at in (0, 13))
+            times = [30 + 9 * it for it in range(120)]
+            want = flat(plain_one.latest(sources, targets, times))
+            matrix = [flat(row) for row in plain_one.departures([9, 3], [300, 220])]
+            for source, target, time, found in [*zip(sources, targets, times, want)][::17]:
+                in_time = [it for it in range(time + 1) if net.least([(source, it)])[target - 1] <= time]
+                self.assertEqual(found, in_time[-1] if in_time else NEVER)
+            # The road is turned round before it is prepared, and once more after.
+            self.assertEqual(flat(road.latest(sources, targets, times)), want)
+            self.assertIs(road.prepare(), road)
+            for threads in (1, 4):
+                self.assertEqual(flat(road.latest(sources, targets, times, threads=threads)), want)
+                self.assertEqual([flat(row) for row in road.departures([9, 3], [300, 220], threads=threads)], matrix)
+            self.assertEqual(flat(earliest.Road(net.gr(), net.tp()).prepare(range(1, 41)).latest(sources, targets, times)), want)
+
+    def test_pairs_and_all_nodes_in_turns_on_a_prepared_road(self):
+        for net in self.networks:
+            search = earliest.Road(net.gr(), net.tp()).prepare().searcher()
+            for at in range(40):
+                source, target, departure = at % 40 + 1, at * 7 % 40 + 1, 11 * at
+                want = net.least([(source, departure)])
+                for _ in range(2):
+                    self.assertEqual(search.pair(source, departure, target), None if want[target - 1] == NEVER else want[target - 1])
+                found = search.find(source, departure)
+                self.assertEqual(flat(found.arrivals), want)
+                walk = found.walk(target)
+                self.assertEqual(walk is None, want[target - 1] == NEVER)
+                if walk is not None:
+                    self.assertEqual(net.walked(source, departure, walk), (target, want[target - 1]))
+
+    def test_pairs_on_a_prepared_road_take_a_fraction_of_the_time(self):
+        nodes, tails, heads, weights = plain.grid(150, part=0.65)
+        roads = [earliest.Road.of_arcs(nodes, tails, heads, weights) for _ in range(2)]
+        roads[1].prepare()
+        words = random.Random(2)
+        sources, targets = ([words.randint(1, nodes) for _ in range(400)] for _ in range(2))
+        for call in (lambda road: road.pairs(sources, targets, 0, threads=1), lambda road: road.latest(sources, targets, earliest.HORIZON, threads=1)):
+            took, found = [], []
+            for road in roads:
+                call(road)
+                begun = process_time()
+                found.append(flat(call(road)))
+                took.append(process_time() - begun)
+            self.assertEqual(found[0], found[1])
+            self.assertLess(2 * took[1], took[0])
 
     def test_a_road_that_is_not_worth_a_preparation(self):
         net = plain.network(3, 4000, 16000, ())

@@ -44,7 +44,7 @@ stops_are_sources nodes targets are = record {
       record { from_one = is.0.from_one; within = is.1 };
 }
 
-turned_top : (arcs : List Arc) → top_class (map turned_arc arcs) ≡ top_class arcs
+pub turned_top : (arcs : List Arc) → top_class (map turned_arc arcs) ≡ top_class arcs
 turned_top [] = refl
 turned_top (arc ∷ arcs) = ap (λ n. max arc.class n) (turned_top arcs)
 

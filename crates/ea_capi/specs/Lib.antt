@@ -11,3 +11,4 @@ pub mod Latest
 pub mod LatestCalls
 pub mod Prepared
 pub mod Shared
+pub mod Searching

@@ -1,24 +1,23 @@
 -- Prepared roads, and the outcomes of the call that makes them.
 use Rattle.std.specs.Prelude.{◌≡◌, ◌⊎◌, ℕ, List, Option, Some, None}
-use Rattle.ea_hierarchy.specs.Hierarchies.{Hierarchy}
 use Rattle.ea_hierarchy.specs.Orders.{IsOrder}
-use Rattle.ea_hierarchy.specs.Preparations.{IsPreparedFor}
 use Rattle.ea_hierarchy.specs.declared.unprepared.Unprepared.{Unprepared}
 use Rattle.ea_hierarchy.specs.declared.unprepared.Unprepared.TheVariants.{NoOrder, NotWorth, OutOfMemory}
-use Rattle.ea_load.specs.Posed.{times_on}
+use Rattle.ea_layout.specs.declared.layout.Layout.{Layout}
 use Rattle.ea_load.specs.declared.road.Road.{Road}
 use Rattle.ea_capi.specs.declared.handle.content.Content.{Content}
 use Rattle.ea_capi.specs.declared.handle.content.Content.TheVariants as content
+use Rattle.ea_capi.specs.Shared.{IsLaidFor}
 use Rattle.ea_capi.specs.States.{road_in}
 
--- The preparation of the road or the search of a handle, if it has one.
-abbrev pub preparation_in : Option Content → Option Hierarchy
-preparation_in None = None
-preparation_in (Some (content.Road share)) = share.prepared
-preparation_in (Some (content.Search session)) = session.share.prepared
-preparation_in (Some (content.Turned turned)) = None
-preparation_in (Some (content.Latest search)) = None
-preparation_in (Some content.Away) = None
+-- The layout of the road or the search of a handle, if it is prepared.
+abbrev pub layout_in : Option Content → Option Layout
+layout_in None = None
+layout_in (Some (content.Road share)) = share.layout
+layout_in (Some (content.Search session)) = session.share.layout
+layout_in (Some (content.Turned turned)) = None
+layout_in (Some (content.Latest search)) = None
+layout_in (Some content.Away) = None
 
 -- The number of why a road isn't prepared.
 abbrev pub unprepared_number : Unprepared → ℕ
@@ -26,12 +25,12 @@ unprepared_number NotWorth = 26
 unprepared_number NoOrder = 27
 unprepared_number OutOfMemory = 13
 
--- The content is this road, and has a preparation of it.
+-- The content is this road, and has a layout of it that is prepared for its travel times.
 pub record IsRoadPrepared (road : Road) (content : Option Content) : Type 0 where
   pub same : road_in content ≡ Some road
-  pub hierarchy : Hierarchy
-  pub there : preparation_in content ≡ Some hierarchy
-  pub fits : IsPreparedFor road.network (times_on road) hierarchy
+  pub layout : Layout
+  pub there : layout_in content ≡ Some layout
+  pub fits : IsLaidFor road layout
 
 -- The road is worth no preparation, or a list is no order of its nodes, or memory was refused.
 abbrev pub IsUnprepared : ℕ → Type 0
@@ -53,6 +52,6 @@ abbrev pub IsPrepared : Option Road → Option Content → Option Content → �
 IsPrepared None old new number = (number ≡ 16) × (new ≡ old)
 IsPrepared (Some road) old new number = (IsRoadPrepared road new × (number ≡ 0)) ⊎ ((new ≡ old) × IsUnprepared number)
 
--- A call that succeeded made a search that uses the road's preparation, if it has one.
+-- A call that succeeded made a search that uses the road's layout, if it is prepared.
 abbrev pub IsLedAlike : Option Content → Option Content → ℕ → Type 0
-IsLedAlike road search number = number ≡ 0 → preparation_in search ≡ preparation_in road
+IsLedAlike road search number = number ≡ 0 → layout_in search ≡ layout_in road

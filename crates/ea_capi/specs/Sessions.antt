@@ -30,9 +30,9 @@ pub record IsAnswered (query : Asking) (session : Session) : Type 0 where
   pub arrivals : HasArrivals (road_of session).network (answers_on (road_of session)) query session.search.answer
   pub walks : session.walks ≡ true → IsAnswer (road_of session).network (answers_on (road_of session)) query session.search.answer
 
--- The road, its preparation, the room and the answer at some nodes are unchanged.
+-- The road, its layout, the room and the answer at some nodes are unchanged.
 pub record IsSame (old new : Session) : Type 0 where
   pub road : road_of new ≡ road_of old
-  pub prepared : new.share.prepared ≡ old.share.prepared
+  pub layout : new.share.layout ≡ old.share.layout
   pub walks : new.walks ≡ old.walks
   pub asked : new.asked ≡ old.asked

@@ -34,7 +34,7 @@ abbrev pub turned_in : Option Content → Option Road
 turned_in None = None
 turned_in (Some (content.Road share)) = None
 turned_in (Some (content.Search session)) = None
-turned_in (Some (content.Turned turned)) = Some (arc_value (arc_value turned).terrain).road
+turned_in (Some (content.Turned share)) = Some (arc_value share.turned.terrain).road
 turned_in (Some (content.Latest search)) = None
 turned_in (Some content.Away) = None
 
@@ -49,4 +49,4 @@ latest_in (Some content.Away) = None
 
 -- The road of a search for latest departures.
 abbrev pub road_behind : LatestSearch → Road
-road_behind search = (arc_value (arc_value search.turned).terrain).road
+road_behind search = (arc_value search.share.turned.terrain).road

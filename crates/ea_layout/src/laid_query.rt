@@ -1,6 +1,6 @@
 //! Queries under the numbers of a layout.
 ghost use Rattle.std.specs.List.{IsAmong};
-ghost use Rattle.std.specs.Prelude.{◌≡◌, ℕ, IfOk, None, Some, length};
+ghost use Rattle.std.specs.Prelude.{◌≡◌, ℕ, IfOk, IfSome, None, Some, length};
 ghost use Rattle.ea_layout.specs.Copied.{AsksFor};
 ghost use Rattle.ea_layout.specs.Laid.{CanRename};
 ghost use Rattle.ea_layout.specs.Renamed.{renamed_source, renamed_sources};
@@ -52,7 +52,36 @@ fn laid_query_of_all(alloc: Global, places: &[u32], sources: &[Source]) -> Resul
     }
 }
 
-/// A query that asks under new numbers of the nodes for what a query asks. Takes no memory for one source.
+/// The query of a pair from one source under new numbers of the nodes; none if there are several sources.
+fn laid_from(places: &[u32], sources: &[Source], target: u32) -> Option<Query>
+    requires sources { AreSources sources.now }
+    requires can { CanRename places.now sources.now }
+    requires target { IsNode (length places.now) target }
+    ensures { IfSome result (λ laid. AsksFor places.now
+        (record { sources = sources.now; target = Some target }) laid) }
+{
+    match sources {
+        [source] => Some(Query::pair(laid_source(places, *source), places[target as usize - 1])),
+        _ => None,
+    }
+}
+
+/// The query of a pair under new numbers of the nodes; none if all nodes are asked for, or there are several sources.
+pub(crate) fn laid_pair(places: &[u32], query: &Query) -> Option<Query>
+    requires can { CanRename places.now query.now.sources }
+    requires target { (node : ℕ) → query.now.target ≡ Some node
+        → IsNode (length places.now) node }
+    ensures { IfSome result (λ laid. AsksFor places.now query.now laid) }
+{
+    let sources = query.sources();
+    match query.target() {
+        None => None,
+        Some(target) => laid_from(places, sources, target),
+    }
+}
+
+/// A query that asks under new numbers of the nodes for what a query asks. With a target and several sources it asks for all nodes. Takes no
+/// memory for one source.
 pub(crate) fn laid_query(alloc: Global, places: &[u32], query: &Query) -> Result<Query, AllocError>
     requires can { CanRename places.now query.now.sources }
     requires target { (node : ℕ) → query.now.target ≡ Some node
@@ -60,27 +89,8 @@ pub(crate) fn laid_query(alloc: Global, places: &[u32], query: &Query) -> Result
     ensures { IfOk result (λ laid. AsksFor places.now query.now laid) }
 {
     let sources = query.sources();
-    match query.target() {
+    match laid_pair(places, query) {
+        Some(laid) => Ok(laid),
         None => laid_query_of_all(alloc, places, sources),
-        Some(target) => laid_pair(alloc, places, sources, target),
-    }
-}
-
-/// A query for a target. A query for a target has one source; with more, all nodes are asked.
-fn laid_pair(
-    alloc: Global,
-    places: &[u32],
-    sources: &[Source],
-    target: u32,
-) -> Result<Query, AllocError>
-    requires sources { AreSources sources.now }
-    requires can { CanRename places.now sources.now }
-    requires target { IsNode (length places.now) target }
-    ensures { IfOk result (λ laid. AsksFor places.now
-        (record { sources = sources.now; target = Some target }) laid) }
-{
-    match sources {
-        [source] => Ok(Query::pair(laid_source(places, *source), places[target as usize - 1])),
-        _ => laid_query_of_all(alloc, places, sources),
     }
 }

@@ -5,7 +5,7 @@ ghost use Rattle.ea_layout.specs.Laid.{CanFindLaid, IsPreparedLaid};
 ghost use Rattle.ea_paths.specs.Searches.{CanFind, HasFound, HasFoundArrivals, HasFoundWalks};
 ghost use Rattle.ea_search.specs.Answers.{HasArrivals, IsAnswer};
 
-use crate::laid_query::laid_query;
+use crate::laid_query::{laid_pair, laid_query};
 use crate::layout::Layout;
 use crate::written::Written;
 use ea_paths::{Answer, Search};
@@ -21,8 +21,14 @@ use std::marker::Model;
 #[derive(Drop)]
 pub struct LaidSearch {
     search: Search,
+    /// What the last search on the layout found.
     answer: Answer,
+    /// The nodes at which that answer has something.
     listed: Listed,
+    /// Whether there is room for walks.
+    has_walks: bool,
+    /// Whether the last query was answered on the layout; otherwise its answer is the search's own.
+    is_laid: bool,
 }
 
 impl Model for LaidSearch {
@@ -32,10 +38,15 @@ impl Model for LaidSearch {
 
     ghost Value = { Searched };
 
-    ghost view = { λ s. record { nodes = s.search.nodes; walks = s.search.walks; answer = s.answer } };
+    ghost view = { λ s. record {
+      nodes = s.search.nodes;
+      walks = s.search.walks;
+      answer = if s.is_laid then s.answer else s.search.answer;
+    } };
 
     ghost invariant = { λ s. CanRewrite s.search.nodes s.answer.labels s.answer.links s.listed
-        × (length s.answer.links ≡ (if s.search.walks then s.search.nodes else 0)) };
+        × (length s.answer.links ≡ (if s.search.walks then s.search.nodes else 0))
+        × (s.has_walks ≡ s.search.walks) };
 }
 
 /// The number of links with or without walks.
@@ -81,6 +92,8 @@ impl LaidSearch {
             search,
             answer: Answer::new(nodes, None, labels, links, false),
             listed: Listed::new(alloc, nodes),
+            has_walks: walks,
+            is_laid: true,
         })
     }
 
@@ -106,7 +119,11 @@ impl LaidSearch {
     pub fn answer(&self) -> &Answer
         ensures { result.now ≡ self.now.answer }
     {
-        &self.answer
+        if self.is_laid {
+            &self.answer
+        } else {
+            self.search.answer()
+        }
     }
 
     /// Answers a query without walks.
@@ -129,6 +146,8 @@ impl LaidSearch {
             search,
             answer,
             listed,
+            has_walks,
+            ..
         } = self;
         let (labels, links) = answer.into_arrays();
         let mut written = Written {
@@ -147,6 +166,8 @@ impl LaidSearch {
             search,
             answer: Answer::new(network.nodes(), query.target(), labels, links, false),
             listed,
+            has_walks,
+            is_laid: true,
         }
     }
 
@@ -171,6 +192,8 @@ impl LaidSearch {
             search,
             answer,
             listed,
+            has_walks,
+            ..
         } = self;
         let (labels, links) = answer.into_arrays();
         let mut written = Written {
@@ -190,6 +213,77 @@ impl LaidSearch {
             search,
             answer: Answer::new(network.nodes(), query.target(), labels, links, true),
             listed,
+            has_walks,
+            is_laid: true,
+        }
+    }
+
+    /// Answers a query on the network as it is, with its canonical walks if there is room for walks. The search is consumed and returned with
+    /// its answer.
+    pub fn find_unlaid<T: TravelTimes>(
+        self,
+        network: &Network,
+        times: &T,
+        query: &Query,
+    ) -> LaidSearch
+        requires { CanFind network.now (T.classes times.now) query.now self }
+        ensures { HasFound network.now (T.answers times.now) query.now self result }
+    {
+        let LaidSearch {
+            search,
+            answer,
+            listed,
+            has_walks,
+            ..
+        } = self;
+        LaidSearch {
+            search: search.find(network, times, query),
+            answer,
+            listed,
+            has_walks,
+            is_laid: false,
+        }
+    }
+
+    /// Answers a query under the numbers of a layout, with its canonical walks if there is room for walks.
+    fn find_laid<T: TravelTimes>(
+        self,
+        alloc: Global,
+        network: &Network,
+        layout: &Layout,
+        times: &T,
+        query: &Query,
+        laid: &Query,
+    ) -> LaidSearch
+        requires can { CanFindLaid network.now (T.answers times.now) layout.now (T.classes times.now)
+            query.now self }
+        requires asks { AsksFor layout.now.places.items query.now laid.now }
+        ensures { HasFound network.now (T.answers times.now) query.now self result }
+    {
+        if self.has_walks {
+            self.walks(alloc, network, layout, times, query, laid)
+        } else {
+            self.arrivals(alloc, network, layout, times, query, laid)
+        }
+    }
+
+    /// Answers a query, with its canonical walks if there is room for walks: that of a pair on the layout, led by its preparation if it has
+    /// one, and others on the network as it is, which saves writing an answer once over. The search is consumed and returned with its answer.
+    pub fn find<T: TravelTimes>(
+        self,
+        alloc: Global,
+        network: &Network,
+        layout: &Layout,
+        times: &T,
+        query: &Query,
+    ) -> LaidSearch
+        requires { CanFindLaid network.now (T.answers times.now) layout.now (T.classes times.now)
+            query.now self }
+        ensures { HasFound network.now (T.answers times.now) query.now self result }
+    {
+        match laid_pair(&layout.places, query) {
+            Some(laid) => self.find_laid(alloc, network, layout, times, query, &laid),
+            None => self.find_unlaid(network, times, query),
         }
     }
 

@@ -1,5 +1,6 @@
 //! A network whose nodes are renumbered so that neighbours are near.
 ghost use Rattle.std.specs.Prelude.{◌≡◌, ◌≤◌, IfErr, IfOk, IfSome, IsTrue, None, is_some, length, map};
+ghost use Rattle.ea_hierarchy.specs.Orders.{IsOrder};
 ghost use Rattle.ea_hierarchy.specs.declared.unprepared.Unprepared.TheVariants.{NoOrder};
 ghost use Rattle.ea_layout.specs.Laid.{IsPreparedLaid};
 ghost use Rattle.ea_layout.specs.Orders.{AreAllPlaced, LaysOut};
@@ -9,7 +10,7 @@ ghost use Rattle.ea_road.specs.Roads.{IsNode, top_class};
 use crate::depth_first::depth_first;
 use crate::given_order::in_order;
 use crate::order::Order;
-use ea_hierarchy::{Prepared, Unprepared, elimination_order};
+use ea_hierarchy::{Prepared, Unprepared, elimination_order, is_order};
 use ea_road::{Arc, Network};
 use ea_travel_times::TravelTimes;
 use std::alloc::{AllocError, Global};
@@ -119,6 +120,47 @@ impl Layout {
         let list = elimination_order(alloc, network)?;
         let order = in_order(alloc, network, &list)?;
         drop(list);
+        Layout::prepare_in(alloc, network, times, order)
+    }
+
+    /// A network in an order of its nodes that is given, prepared for pairs over it: any permutation serves, and one of nested dissection
+    /// makes searches quick. `NoOrder` comes if the list is no order, `NotWorth` and `OutOfMemory` as from `prepare`. The order of another
+    /// layout of as many nodes is its `nodes`.
+    pub fn prepare_by<T: TravelTimes>(
+        alloc: Global,
+        network: &Network,
+        times: &T,
+        list: &[u32],
+    ) -> Result<Layout, Unprepared>
+        requires { top_class network.now.arcs ≤ T.classes times.now }
+        ensures laid_out { IfOk result (λ layout. LaysOut network.now layout) }
+        ensures is_there { IfOk result (λ layout. IsTrue (is_some layout.prepared)) }
+        ensures prepared { IfOk result (IsPreparedLaid (T.answers times.now)) }
+        ensures order { IfOk result (λ layout. IsOrder network.now.nodes list.now) }
+        ensures refused { IfErr result (λ why. why ≡ NoOrder → IsOrder network.now.nodes list.now → ⊥) }
+    {
+        if !is_order(alloc, network.nodes(), list)? {
+            return Err(Unprepared::NoOrder);
+        }
+        let order = in_order(alloc, network, list)?;
+        Layout::prepare_in(alloc, network, times, order)
+    }
+
+    /// A network in an order of all its nodes, prepared for pairs over it.
+    fn prepare_in<T: TravelTimes>(
+        alloc: Global,
+        network: &Network,
+        times: &T,
+        order: Order,
+    ) -> Result<Layout, Unprepared>
+        requires classes { top_class network.now.arcs ≤ T.classes times.now }
+        requires nodes { length order.places ≡ network.now.nodes }
+        requires all { AreAllPlaced order.places }
+        ensures laid_out { IfOk result (λ layout. LaysOut network.now layout) }
+        ensures is_there { IfOk result (λ layout. IsTrue (is_some layout.prepared)) }
+        ensures prepared { IfOk result (IsPreparedLaid (T.answers times.now)) }
+        ensures refused { IfErr result (λ why. why ≡ NoOrder → ⊥) }
+    {
         let laid = Layout::by(alloc, network, order)?;
         let prepared = Prepared::by_numbers(alloc, &laid.network, times)?;
         let Layout {

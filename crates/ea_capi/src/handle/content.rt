@@ -5,10 +5,11 @@ ghost use Rattle.std.specs.Arc.{arc_value};
 ghost use Rattle.ea_road.specs.Roads.{IsNode};
 ghost use Rattle.ea_road.specs.Turned.{turned_roads};
 
+use crate::handle::road_search::RoadSearch;
 use crate::handle::share::Share;
 use crate::handle::terrain::Terrain;
+use crate::handle::turned_share::TurnedShare;
 use ea_asked::AskedSearch;
-use ea_paths::Search;
 use ea_road::Network;
 use std::alloc::Global;
 use std::sync::Arc;
@@ -26,7 +27,7 @@ pub struct AskedNodes {
 #[derive(Drop)]
 pub struct Session {
     pub share: Share,
-    pub search: Search,
+    pub search: RoadSearch,
     /// Whether the search finds walks and has room for them.
     pub walks: bool,
     /// The last query for some nodes, if there was one.
@@ -47,11 +48,11 @@ pub struct TurnedRoad {
 /// A search for latest departures by one thread, with its share of its road turned round.
 #[derive(Drop)]
 pub struct LatestSearch {
-    pub turned: Arc<TurnedRoad, Global>,
-    pub search: Search,
+    pub share: TurnedShare,
+    pub search: RoadSearch,
     /// Whether the search finds walks and has room for them.
     pub walks: bool,
-    pub ghost nodes: { search.nodes ≡ (arc_value turned).network.nodes },
+    pub ghost nodes: { search.nodes ≡ share.turned.network.nodes },
     pub ghost room: { search.walks ≡ walks },
 }
 
@@ -63,7 +64,7 @@ pub enum Content {
     /// A search.
     Search(Session),
     /// A share of a road turned round.
-    Turned(Arc<TurnedRoad, Global>),
+    Turned(TurnedShare),
     /// A search for latest departures.
     Latest(LatestSearch),
     /// Nothing, while a call uses the search.

@@ -1,26 +1,26 @@
-//! A share of a road and of its preparation.
-ghost use Rattle.std.specs.Prelude.{◌≡◌, ◌≤◌, IfOk, IfSome, None, Some, length, option_map, true};
+//! A share of a road, and of its layout if it is prepared.
+ghost use Rattle.std.specs.Prelude.{◌≡◌, ◌≤◌, IfOk, IfSome, None, Some, length, option_map};
 ghost use Rattle.std.specs.Arc.{arc_value};
-ghost use Rattle.ea_hierarchy.specs.Preparations.{IsPreparedFor};
+ghost use Rattle.ea_capi.specs.Shared.{IsLaidFor};
 ghost use Rattle.ea_load.specs.Posed.{times_on};
+ghost use Rattle.ea_paths.specs.Searches.{HasFound};
 ghost use Rattle.ea_road.specs.Queries.{IsProblem};
 ghost use Rattle.ea_road.specs.Roads.{top_class};
-ghost use Rattle.ea_search.specs.Answers.{HasArrivals, IsAnswer};
 
+use crate::handle::road_search::RoadSearch;
 use crate::handle::terrain::Terrain;
-use ea_hierarchy::Prepared;
+use ea_layout::Layout;
 use ea_load::Road;
-use ea_paths::Search;
 use ea_road::Query;
 use std::alloc::{AllocError, Global};
 use std::marker::Model;
 use std::sync::Arc;
 
-/// A share of a road, and of its preparation if it has one. In contracts it is the road and the preparation.
+/// A share of a road, and of its layout if it is prepared. In contracts it is the road and the layout.
 #[derive(Drop)]
 pub struct Share {
     terrain: Arc<Terrain, Global>,
-    prepared: Option<Arc<Prepared, Global>>,
+    layout: Option<Arc<Layout, Global>>,
 }
 
 impl Model for Share {
@@ -32,62 +32,37 @@ impl Model for Share {
 
     ghost view = { λ s. record {
       road = (arc_value s.terrain).road;
-      prepared = option_map arc_value s.prepared;
+      layout = option_map arc_value s.layout;
     } };
 
     ghost invariant = { λ s. IsShared (record {
       road = (arc_value s.terrain).road;
-      prepared = option_map arc_value s.prepared;
+      layout = option_map arc_value s.layout;
     }) };
-}
-
-/// Answers a query on a road, with walks if there is room for them. The search of a pair is led by a
-/// preparation, if there is one.
-fn find_on(
-    alloc: Global,
-    road: &Road,
-    prepared: Option<&Prepared>,
-    search: Search,
-    query: &Query,
-) -> Search
-    requires problem { IsProblem road.now.network (length road.now.times.tables.list.items) query.now }
-    requires nodes { search.nodes ≡ road.now.network.nodes }
-    requires prepared { IfSome prepared (λ it.
-        IsPreparedFor road.now.network (times_on road.now) it.now) }
-    ensures arrivals { HasArrivals road.now.network (times_on road.now) query.now result.answer }
-    ensures walks { search.walks ≡ true →
-        IsAnswer road.now.network (times_on road.now) query.now result.answer }
-    ensures same { (result.nodes ≡ search.nodes) × (result.walks ≡ search.walks) }
-{
-    match prepared {
-        Some(prepared) => { search.find_led(alloc, &road.network, &road.times, prepared, query) }
-        None => search.find(&road.network, &road.times, query),
-    }
 }
 
 impl Share {
     /// A share of a road without a preparation.
     pub fn of(terrain: Arc<Terrain, Global>) -> Share
-        ensures { result ≡ record { road = (arc_value terrain).road; prepared = None } }
+        ensures { result ≡ record { road = (arc_value terrain).road; layout = None } }
     {
         Share {
             terrain,
-            prepared: None,
+            layout: None,
         }
     }
 
-    /// A share of a road with its preparation.
-    pub fn with(terrain: Arc<Terrain, Global>, prepared: Arc<Prepared, Global>) -> Share
-        requires { IsPreparedFor (arc_value terrain).road.network
-            (times_on (arc_value terrain).road) (arc_value prepared) }
+    /// A share of a road with its layout.
+    pub fn with(terrain: Arc<Terrain, Global>, layout: Arc<Layout, Global>) -> Share
+        requires { IsLaidFor (arc_value terrain).road (arc_value layout) }
         ensures { result ≡ record {
           road = (arc_value terrain).road;
-          prepared = Some (arc_value prepared);
+          layout = Some (arc_value layout);
         } }
     {
         Share {
             terrain,
-            prepared: Some(prepared),
+            layout: Some(layout),
         }
     }
 
@@ -96,10 +71,10 @@ impl Share {
         ensures { IfOk result (λ it. it ≡ self.now) }
     {
         let terrain = Arc::try_clone(&self.terrain)?;
-        match &self.prepared {
-            Some(prepared) => {
-                let prepared = Arc::try_clone(prepared)?;
-                Ok(Share::with(terrain, prepared))
+        match &self.layout {
+            Some(layout) => {
+                let layout = Arc::try_clone(layout)?;
+                Ok(Share::with(terrain, layout))
             }
             None => Ok(Share::of(terrain)),
         }
@@ -129,27 +104,23 @@ impl Share {
 
     /// Answers a query on the road, with walks if there is room for them. The search of a pair is led by the
     /// preparation, if there is one.
-    pub fn find(&self, alloc: Global, search: Search, query: &Query) -> Search
+    pub fn find(&self, alloc: Global, search: RoadSearch, query: &Query) -> RoadSearch
         requires problem { IsProblem self.now.road.network
             (length self.now.road.times.tables.list.items) query.now }
         requires nodes { search.nodes ≡ self.now.road.network.nodes }
-        ensures arrivals { HasArrivals self.now.road.network (times_on self.now.road)
-            query.now result.answer }
-        ensures walks { search.walks ≡ true → IsAnswer self.now.road.network
-            (times_on self.now.road) query.now result.answer }
-        ensures same { (result.nodes ≡ search.nodes) × (result.walks ≡ search.walks) }
+        ensures { HasFound self.now.road.network (times_on self.now.road) query.now search result }
     {
-        find_on(alloc, self.road(), self.preparation(), search, query)
+        let road = self.road();
+        search.find(alloc, &road.network, &road.times, self.layout(), query)
     }
 
-    /// Its preparation, if it has one.
-    pub fn preparation(&self) -> Option<&Prepared>
-        ensures same { option_map (λ it. it.now) result ≡ self.now.prepared }
-        ensures fits { IfSome result (λ it. IsPreparedFor self.now.road.network
-            (times_on self.now.road) it.now) }
+    /// Its layout, if it is prepared.
+    pub fn layout(&self) -> Option<&Layout>
+        ensures same { option_map (λ it. it.now) result ≡ self.now.layout }
+        ensures fits { IfSome result (λ it. IsLaidFor self.now.road it.now) }
     {
-        match &self.prepared {
-            Some(prepared) => Some(prepared),
+        match &self.layout {
+            Some(layout) => Some(layout),
             None => None,
         }
     }

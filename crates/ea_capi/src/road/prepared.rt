@@ -2,10 +2,9 @@
 ghost use Rattle.std.specs.Prelude.{◌≡◌, ◌≢◌, IfErr, IfOk, MatchOption, Some};
 ghost use Rattle.std.specs.Arc.{arc_value};
 ghost use Rattle.ea_hierarchy.specs.Orders.{IsOrder};
-ghost use Rattle.ea_hierarchy.specs.Preparations.{IsPreparedFor};
 ghost use Rattle.ea_hierarchy.specs.declared.unprepared.Unprepared.TheVariants.{NoOrder};
-ghost use Rattle.ea_load.specs.Posed.{times_on};
 ghost use Rattle.ea_capi.specs.Prepared.{IsOrderOf, IsPrepared, IsPreparedOf, IsRoadPrepared, IsUnprepared, unprepared_number};
+ghost use Rattle.ea_capi.specs.Shared.{IsLaidFor};
 ghost use Rattle.ea_capi.specs.States.{road_in};
 
 use crate::fault_numbers::{DONE, NO_ORDER, NO_ROAD, NOT_WORTH, OUT_OF_MEMORY};
@@ -13,7 +12,8 @@ use crate::handle::content::Content;
 use crate::handle::handle::Handle;
 use crate::handle::share::Share;
 use crate::handle::terrain::Terrain;
-use ea_hierarchy::{Prepared, Unprepared};
+use ea_hierarchy::Unprepared;
+use ea_layout::Layout;
 use std::alloc::{AllocError, Global};
 use std::sync::Arc;
 
@@ -28,38 +28,35 @@ fn number_of(why: Unprepared) -> u32
     }
 }
 
-/// A road with its preparation, in a new box.
+/// A road with its layout, in a new box.
 fn boxed(
     alloc: Global,
     terrain: Arc<Terrain, Global>,
-    prepared: Prepared,
+    layout: Layout,
 ) -> Result<Box<Content, Global>, AllocError>
-    requires { IsPreparedFor (arc_value terrain).road.network
-        (times_on (arc_value terrain).road) prepared }
+    requires { IsLaidFor (arc_value terrain).road layout }
     ensures { IfOk result (λ it. IsRoadPrepared (arc_value terrain).road (Some it.value)) }
 {
-    let prepared = Arc::new(alloc, prepared)?;
-    Ok(Box::new(alloc, Content::Road(Share::with(terrain, prepared)))?)
+    let layout = Arc::new(alloc, layout)?;
+    Ok(Box::new(alloc, Content::Road(Share::with(terrain, layout)))?)
 }
 
-/// A preparation of a road.
-fn preparation_of(alloc: Global, terrain: &Terrain) -> Result<Prepared, Unprepared>
-    ensures prepared { IfOk result
-        (IsPreparedFor terrain.now.road.network (times_on terrain.now.road)) }
+/// A prepared layout of a road.
+fn layout_of(alloc: Global, terrain: &Terrain) -> Result<Layout, Unprepared>
+    ensures laid { IfOk result (IsLaidFor terrain.now.road) }
     ensures refused { IfErr result (λ why. why ≡ NoOrder → ⊥) }
 {
-    Prepared::of(alloc, &terrain.road.network, &terrain.road.times)
+    Layout::prepare(alloc, &terrain.road.network, &terrain.road.times)
 }
 
-/// A preparation of a road over an order of its nodes.
-fn preparation_by(alloc: Global, terrain: &Terrain, order: &[u32]) -> Result<Prepared, Unprepared>
-    ensures prepared { IfOk result
-        (IsPreparedFor terrain.now.road.network (times_on terrain.now.road)) }
-    ensures order { IfOk result (λ prepared. IsOrder terrain.now.road.network.nodes order.now) }
+/// A prepared layout of a road over an order of its nodes.
+fn layout_by(alloc: Global, terrain: &Terrain, order: &[u32]) -> Result<Layout, Unprepared>
+    ensures laid { IfOk result (IsLaidFor terrain.now.road) }
+    ensures order { IfOk result (λ layout. IsOrder terrain.now.road.network.nodes order.now) }
     ensures refused { IfErr result (λ why. why ≡ NoOrder
         → IsOrder terrain.now.road.network.nodes order.now → ⊥) }
 {
-    Prepared::with_order(alloc, &terrain.road.network, &terrain.road.times, order)
+    Layout::prepare_by(alloc, &terrain.road.network, &terrain.road.times, order)
 }
 
 /// A road with a preparation, in a new box.
@@ -70,9 +67,9 @@ fn prepared_road(
     ensures made { IfOk result (λ it. IsRoadPrepared (arc_value terrain.now).road (Some it.value)) }
     ensures refused { IfErr result (λ why. why ≡ NoOrder → ⊥) }
 {
-    let prepared = preparation_of(alloc, terrain)?;
+    let layout = layout_of(alloc, terrain)?;
     let terrain = Arc::try_clone(terrain)?;
-    Ok(boxed(alloc, terrain, prepared)?)
+    Ok(boxed(alloc, terrain, layout)?)
 }
 
 /// A road with a preparation over an order of its nodes, in a new box.
@@ -86,9 +83,9 @@ fn road_by_order(
     ensures refused { IfErr result (λ why. why ≡ NoOrder
         → IsOrder (arc_value terrain.now).road.network.nodes order.now → ⊥) }
 {
-    let prepared = preparation_by(alloc, terrain, order)?;
+    let layout = layout_by(alloc, terrain, order)?;
     let terrain = Arc::try_clone(terrain)?;
-    Ok(boxed(alloc, terrain, prepared)?)
+    Ok(boxed(alloc, terrain, layout)?)
 }
 
 /// The road of a content with a preparation, or the refusal's number.
@@ -125,17 +122,24 @@ fn prepared_by(alloc: Global, content: &Content, order: &[u32]) -> Result<Box<Co
     }
 }
 
-/// The order of a road's preparation, or the refusal's number: there is none, or memory was refused.
+/// A copy of a list.
+fn copy_of(alloc: Global, list: &[u32]) -> Result<Vec<u32>, AllocError> {
+    let mut copy = Vec::with_capacity(alloc, list.len())?;
+    copy.extend_from_slice(list)?;
+    Ok(copy)
+}
+
+/// The order of a prepared road, or the refusal's number: it isn't prepared, or memory was refused.
 fn order_of(alloc: Global, content: &Content) -> Result<Vec<u32>, u32>
     ensures { IfErr result IsUnprepared }
 {
     let Content::Road(share) = content else {
         return Err(NO_ORDER);
     };
-    let Some(prepared) = share.preparation() else {
+    let Some(layout) = share.layout() else {
         return Err(NO_ORDER);
     };
-    match prepared.order(alloc) {
+    match copy_of(alloc, &layout.nodes) {
         Ok(order) => Ok(order),
         Err(_) => Err(OUT_OF_MEMORY),
     }

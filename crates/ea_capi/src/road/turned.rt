@@ -1,26 +1,48 @@
 //! Roads turned round, for latest departures.
-ghost use Rattle.std.specs.Prelude.{◌≡◌, IfErr, IfOk, MatchOption, None, Some};
-ghost use Rattle.std.specs.Arc.{arc_value};
+ghost use Rattle.std.specs.Prelude.{◌≡◌, IfErr, IfOk, IfSome, MatchOption, None, Some};
 ghost use Rattle.ea_capi.specs.LatestCalls.{IsTurnedRound, IsTurnedOf};
+ghost use Rattle.ea_capi.specs.Shared.{IsLaidTurned};
 ghost use Rattle.ea_capi.specs.States.{road_in, turned_in};
 
 use crate::fault_numbers::{DONE, NO_ROAD, OUT_OF_MEMORY};
 use crate::handle::content::{Content, TurnedRoad};
 use crate::handle::handle::Handle;
-use crate::handle::terrain::Terrain;
+use crate::handle::share::Share;
+use crate::handle::turned_share::TurnedShare;
+use ea_hierarchy::Unprepared;
+use ea_layout::Layout;
+use ea_road::Turned;
 use std::alloc::{AllocError, Global};
 use std::sync::Arc;
 
-/// A road turned round, in a new box.
-fn turned_round(
+/// The layout of a turned network, prepared over the order of the road's own; none if that isn't worth it.
+fn turned_layout(
     alloc: Global,
-    terrain: &Arc<Terrain, Global>,
-) -> Result<Box<Content, Global>, AllocError>
-    ensures { IfOk result (λ it. turned_in (Some it.value) ≡ Some (arc_value terrain.now).road) }
+    turned: &TurnedRoad,
+    order: &[u32],
+) -> Result<Option<Layout>, AllocError>
+    ensures { IfOk result (λ found. IfSome found (IsLaidTurned turned.now)) }
 {
-    let terrain = Arc::try_clone(terrain)?;
+    let times = Turned::of(&turned.terrain.road.times);
+    match Layout::prepare_by(alloc, &turned.network, &times, order) {
+        Ok(layout) => Ok(Some(layout)),
+        Err(Unprepared::OutOfMemory) => Err(AllocError),
+        Err(Unprepared::NotWorth | Unprepared::NoOrder) => Ok(None),
+    }
+}
+
+/// A road turned round, in a new box; prepared if the road is.
+fn turned_round(alloc: Global, share: &Share) -> Result<Box<Content, Global>, AllocError>
+    ensures { IfOk result (λ it. turned_in (Some it.value) ≡ Some share.now.road) }
+{
+    let terrain = Arc::try_clone(share.terrain())?;
     let network = terrain.road.network.turned(alloc)?;
-    let turned = Arc::new(alloc, TurnedRoad { terrain, network })?;
+    let turned = TurnedRoad { terrain, network };
+    let layout = match share.layout() {
+        Some(layout) => turned_layout(alloc, &turned, &layout.nodes)?,
+        None => None,
+    };
+    let turned = TurnedShare::of(alloc, turned, layout)?;
     Ok(Box::new(alloc, Content::Turned(turned))?)
 }
 
@@ -31,7 +53,7 @@ fn turned_of(alloc: Global, content: &Content) -> Result<Box<Content, Global>, u
         MatchOption (road_in (Some content.now)) (number ≡ 16) (λ _. number ≡ 13)) }
 {
     match content {
-        Content::Road(share) => match turned_round(alloc, share.terrain()) {
+        Content::Road(share) => match turned_round(alloc, share) {
             Ok(found) => Ok(found),
             Err(_) => Err(OUT_OF_MEMORY),
         },
@@ -39,7 +61,8 @@ fn turned_of(alloc: Global, content: &Content) -> Result<Box<Content, Global>, u
     }
 }
 
-/// Turns a road round, for searches for latest departures: takes as much memory as its network once more.
+/// Turns a road round, for searches for latest departures: takes as much memory as its network once more. A prepared road is prepared turned
+/// round, too, over the same order, so that searches of pairs on it are led.
 ///
 /// The handle `turned` holds it afterwards, with a share of the road, so the road may be freed before it; its earlier content is freed.
 /// If the call doesn't return 0, the handle is unchanged.

@@ -2,7 +2,7 @@
 ghost use Rattle.std.specs.Prelude.{◌≡◌, IfErr, IfOk, IfSome, None, Some, nat_lt};
 ghost use Rattle.ea_capi.specs.Asked.{IsUnasked};
 ghost use Rattle.ea_capi.specs.Calls.{IsBegun, IsHeld, IsNew, IsThere};
-ghost use Rattle.ea_capi.specs.Prepared.{IsLedAlike, preparation_in};
+ghost use Rattle.ea_capi.specs.Prepared.{IsLedAlike, layout_in};
 ghost use Rattle.ea_capi.specs.States.{road_in, session_in};
 
 use crate::fault_numbers::{DONE, NO_ROAD, OUT_OF_MEMORY};
@@ -14,7 +14,7 @@ use std::alloc::{AllocError, Global};
 fn session_on(alloc: Global, content: &Content, walks: bool) -> Result<Option<Session>, AllocError>
     ensures made { IfOk result (IsNew (road_in (Some content.now)) walks) }
     ensures led { IfOk result (λ made. IfSome made (λ it.
-        it.share.prepared ≡ preparation_in (Some content.now))) }
+        it.share.layout ≡ layout_in (Some content.now))) }
     ensures unasked { IfOk result (λ made. IfSome made (λ it. it.asked ≡ None)) }
     ensures refused { IfErr result (λ _. IsThere (road_in (Some content.now))) }
 {
@@ -38,7 +38,8 @@ fn keep(alloc: Global, session: Session, handle: &mut Handle) -> u32
 }
 
 /// Makes a search on a road. If `walks` isn't 0 it has room for walks, and each query finds canonical walks
-/// too. Its arrays take about 40 bytes for each node, 60 with walks; from its first query for some nodes on, 16 more.
+/// too. Its arrays take about 40 bytes for each node, 60 with walks; on a prepared road 8 more, or 20; from its first query for some nodes on,
+/// 16 more.
 ///
 /// The search has a share of the road, so the road may be freed before it. The handle `search` holds the
 /// search afterwards; its earlier content is freed. If the call doesn't return 0, the handle is unchanged.

@@ -3,8 +3,6 @@ ghost use Rattle.std.specs.Prelude.{◌≡◌, ◌≤◌, IfErr, IfOk, None, Som
 ghost use Rattle.std.specs.Arc.{arc_value};
 ghost use Rattle.ea_road.specs.LatestDepartures.{AreTargets, turned_targets};
 ghost use Rattle.ea_road.specs.Queries.{IsProblem};
-ghost use Rattle.ea_search.specs.Answers.{HasArrivals, IsAnswer};
-ghost use Rattle.ea_travel_times.specs.TurnedTimes.{IsTurned};
 ghost use Rattle.ea_capi.specs.Calls.{IsThere};
 ghost use Rattle.ea_capi.specs.Latest.{IsSameLatest, IsTimely};
 ghost use Rattle.ea_capi.specs.LatestCalls.{IsLatestBegun, IsLatestHeld, IsNewLatest};
@@ -12,49 +10,27 @@ ghost use Rattle.ea_capi.specs.Sessions.{answers_on};
 ghost use Rattle.ea_capi.specs.States.{road_behind, turned_in};
 
 use crate::fault_numbers::{DONE, NO_ROAD, OUT_OF_MEMORY};
-use crate::handle::content::{Content, LatestSearch, TurnedRoad};
+use crate::handle::content::{Content, LatestSearch};
 use crate::handle::handle::Handle;
-use crate::session::sessions::room;
-use ea_paths::Search;
+use crate::handle::road_search::RoadSearch;
+use crate::handle::turned_share::TurnedShare;
 use ea_road::latest_laws::{canonical_walks_turn_round, latest_departures_are_turned_arrivals};
-use ea_road::{Query, Target, Turned};
+use ea_road::{Query, Target};
 use std::alloc::{AllocError, Global};
-use std::sync::Arc;
-
-/// Answers a turned question, with walks or without.
-fn search_turned(road: &TurnedRoad, search: Search, walks: bool, query: &Query) -> Search
-    requires problem { IsProblem road.now.network
-        (length (arc_value road.now.terrain).road.times.tables.list.items) query.now }
-    requires nodes { search.nodes ≡ road.now.network.nodes }
-    requires room { search.walks ≡ walks }
-    ensures arrivals { HasArrivals road.now.network
-        (IsTurned (answers_on (arc_value road.now.terrain).road)) query.now result.answer }
-    ensures walks { walks ≡ true → IsAnswer road.now.network
-        (IsTurned (answers_on (arc_value road.now.terrain).road)) query.now result.answer }
-    ensures same { (result.nodes ≡ search.nodes) × (result.walks ≡ search.walks) }
-{
-    let times = Turned::of(&road.terrain.road.times);
-    if walks {
-        return search.find_walks(&road.network, &times, query);
-    }
-    search.find_arrivals(&road.network, &times, query)
-}
 
 impl LatestSearch {
     /// A search on a road turned round, with a share of it.
-    fn on(
-        alloc: Global,
-        turned: &Arc<TurnedRoad, Global>,
-        walks: bool,
-    ) -> Result<LatestSearch, AllocError>
+    fn on(alloc: Global, share: &TurnedShare, walks: bool) -> Result<LatestSearch, AllocError>
         ensures road { IfOk result (λ it.
-            road_behind it ≡ (arc_value (arc_value turned.now).terrain).road) }
+            road_behind it ≡ (arc_value share.now.turned.terrain).road) }
         ensures walks { IfOk result (λ it. it.walks ≡ walks) }
     {
-        let turned = Arc::try_clone(turned)?;
-        let search = room(alloc, turned.network.nodes(), walks)?;
+        let share = share.again()?;
+        let is_prepared = share.layout().is_some();
+        let nodes = share.turned().network.nodes();
+        let search = RoadSearch::reserve(alloc, nodes, walks, is_prepared)?;
         Ok(LatestSearch {
-            turned,
+            share,
             search,
             walks,
         })
@@ -64,12 +40,12 @@ impl LatestSearch {
     pub fn nodes(&self) -> u32
         ensures { result ≡ (road_behind self.now).network.nodes }
     {
-        self.turned.terrain.road.network.nodes()
+        self.share.turned().terrain.road.network.nodes()
     }
 
     /// Answers a query for targets, which is the turned question's.
-    pub fn find(self, query: &Query, targets: &[Target]) -> LatestSearch
-        requires problem { IsProblem (arc_value self.turned).network
+    pub fn find(self, alloc: Global, query: &Query, targets: &[Target]) -> LatestSearch
+        requires problem { IsProblem self.share.turned.network
             (length (road_behind self).times.tables.list.items) query.now }
         requires sources { query.now.sources ≡ turned_targets targets.now }
         requires targets { AreTargets targets.now }
@@ -77,16 +53,16 @@ impl LatestSearch {
         ensures same { IsSameLatest self result }
     {
         let LatestSearch {
-            turned,
+            share,
             search,
             walks,
         } = self;
-        let road = &turned.terrain.road;
+        let road = &share.turned().terrain.road;
         latest_departures_are_turned_arrivals(&road.network, &road.times, targets);
         canonical_walks_turn_round(&road.network, &road.times, targets);
-        let search = search_turned(&turned, search, walks, query);
+        let search = share.find(alloc, search, query);
         LatestSearch {
-            turned,
+            share,
             search,
             walks,
         }
@@ -103,7 +79,7 @@ fn search_on(
     ensures refused { IfErr result (λ _. IsThere (turned_in (Some content.now))) }
 {
     match content {
-        Content::Turned(turned) => Ok(Some(LatestSearch::on(alloc, turned, walks)?)),
+        Content::Turned(share) => Ok(Some(LatestSearch::on(alloc, share, walks)?)),
         _ => Ok(None),
     }
 }

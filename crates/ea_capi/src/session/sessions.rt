@@ -6,34 +6,23 @@ ghost use Rattle.ea_capi.specs.States.{road_of};
 
 use crate::fault_numbers::{BEYOND_HORIZON, NO_SUCH_NODE};
 use crate::handle::content::Session;
+use crate::handle::road_search::RoadSearch;
 use crate::handle::share::Share;
 use ea_base::HORIZON;
-use ea_paths::Search;
 use ea_road::{Query, Source};
 use std::alloc::{AllocError, Global};
-
-/// Arrays for searches in a network of this number of nodes.
-pub(crate) fn room(alloc: Global, nodes: u32, walks: bool) -> Result<Search, AllocError>
-    ensures nodes { IfOk result (λ search. search.nodes ≡ nodes) }
-    ensures walks { IfOk result (λ search. search.walks ≡ walks) }
-{
-    if walks {
-        Search::reserve(alloc, nodes)
-    } else {
-        Search::reserve_without_walks(alloc, nodes)
-    }
-}
 
 impl Session {
     /// A search on a road, with a share of it.
     pub fn on(alloc: Global, share: &Share, walks: bool) -> Result<Session, AllocError>
         ensures road { IfOk result (λ it. road_of it ≡ share.now.road) }
         ensures walks { IfOk result (λ it. it.walks ≡ walks) }
-        ensures prepared { IfOk result (λ it. it.share.prepared ≡ share.now.prepared) }
+        ensures layout { IfOk result (λ it. it.share.layout ≡ share.now.layout) }
         ensures unasked { IfOk result (λ it. it.asked ≡ None) }
     {
         let share = share.again()?;
-        let search = room(alloc, share.road().network.nodes(), walks)?;
+        let is_prepared = share.layout().is_some();
+        let search = RoadSearch::reserve(alloc, share.road().network.nodes(), walks, is_prepared)?;
         Ok(Session {
             share,
             search,

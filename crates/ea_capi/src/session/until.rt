@@ -80,7 +80,7 @@ impl LatestSearch {
         match turned_targets(alloc, targets) {
             Ok(sources) => {
                 let query = Query::new(sources);
-                (self.find(&query, targets), DONE)
+                (self.find(alloc, &query, targets), DONE)
             }
             Err(_) => (self, OUT_OF_MEMORY),
         }
@@ -103,7 +103,7 @@ impl LatestSearch {
     }
 
     /// Answers one pair.
-    fn find_pair_until(self, source: u32, target: Target) -> (LatestSearch, u32)
+    fn find_pair_until(self, alloc: Global, source: u32, target: Target) -> (LatestSearch, u32)
         ensures found { result.1 ≡ 0 →
             IsFoundUntil (target ∷ []) (Some source) self result.0 }
         ensures refused { result.1 ≢ 0 → result.0 ≡ self }
@@ -122,7 +122,7 @@ impl LatestSearch {
             departure: HORIZON - target.time,
         };
         let query = Query::pair(from, source);
-        (self.find(&query, &targets), DONE)
+        (self.find(alloc, &query, &targets), DONE)
     }
 }
 
@@ -142,14 +142,14 @@ fn until_of(alloc: Global, content: Content, nodes: &[u32], times: &[u64]) -> (C
 }
 
 /// Answers one pair, likewise.
-fn pair_until_of(content: Content, source: u32, target: Target) -> (Content, u32)
+fn pair_until_of(alloc: Global, content: Content, source: u32, target: Target) -> (Content, u32)
     ensures { IsQueriedUntil (IsGoodPair source target) IsDone
         (target ∷ []) (Some source) (latest_in (Some content))
         (Some content) (Some result.0) result.1 }
 {
     match content {
         Content::Latest(search) => {
-            let (search, number) = search.find_pair_until(source, target);
+            let (search, number) = search.find_pair_until(alloc, source, target);
             (Content::Latest(search), number)
         }
         other => (other, NO_SEARCH),
@@ -197,7 +197,7 @@ pub extern "C" fn earliest_search_pair_until(
     let Some((room, content)) = search.empty_out(alloc) else {
         return NO_SEARCH;
     };
-    let (content, number) = pair_until_of(content, source, Target { node: target, time });
+    let (content, number) = pair_until_of(alloc, content, source, Target { node: target, time });
     search.fill(room, content);
     number
 }

@@ -18,4 +18,5 @@ invariant_of-result c =
         linked = λ v. inl (link-none _ v);
       },
       length-replicate c.room_of-room.result no_link ∙ c.room_of-room.ensures ∙ sym (ap (λ nodes. if c.args.walks then nodes else 0) c.requires.0) ∙ sym (ap (λ walks. if walks then c.args.search.nodes else 0) c.requires.1),
+      sym c.requires.1,
     )

@@ -22,14 +22,14 @@ pub returns-clause-answer : goal.returns-clause-answer
 returns-clause-answer c =
     let query = c.args.query.now in
     let targets = c.args.targets.now in
-    let answer = c.search_turned-search.result.answer in
+    let answer = c.find-search.result.answer in
     let walks = c.args.self.walks in
-    let road = c.deref-2.result.now.road in
-    let same : c.deref-2.result.now.road ≡ road_behind c.args.self = ap (λ (it : Terrain). it.road) c.deref-2.ensures ∙ ap (λ (it : TurnedRoad). (arc_value it.terrain).road) c.deref.ensures in
-    let on : c.deref-2.result.now.road ≡ (arc_value c.deref-3.result.now.terrain).road = same ∙ ap (λ (it : TurnedRoad). (arc_value it.terrain).road) (sym c.deref-3.ensures) in
-    let has = has_on c.deref-3.result.now c.deref-2.result.now.road (λ n r. HasArrivals n (IsTurned (answers_on r)) c.args.query.now c.search_turned-search.result.answer) on c.search_turned-search.ensures.arrivals in
-    let is = has_on c.deref-3.result.now c.deref-2.result.now.road (λ n r. c.args.self.walks ≡ true → IsAnswer n (IsTurned (answers_on r)) c.args.query.now c.search_turned-search.result.answer) on c.search_turned-search.ensures.walks in
+    let turned = c.args.self.share.turned in
+    let road = c.deref.result.now.road in
+    let same : road ≡ road_behind c.args.self = ap (λ (it : Terrain). it.road) c.deref.ensures ∙ ap (λ (it : TurnedRoad). (arc_value it.terrain).road) c.turned.ensures in
+    let has = has_on turned road (λ n r. HasArrivals n (IsTurned (answers_on r)) query answer) same c.find-search.ensures.arrivals in
+    let is = has_on turned road (λ n r. walks ≡ true → IsAnswer n (IsTurned (answers_on r)) query answer) same (λ room. c.find-search.ensures.answer (c.args.self.room ∙ room)) in
     let law = c.latest_departures_are_turned_arrivals.ensures in
     let walk_law = c.canonical_walks_turn_round.ensures in
-    let found = are_latest c.deref-2.result.now.road.network (answers_on c.deref-2.result.now.road) c.args.targets.now law.time law.none walk_law.turned walk_law.in_time c.args.query.now c.args.self.walks c.search_turned-search.result.answer c.requires.sources has is in
-    subst (λ (r : Road). AreLatest r.network (answers_on r) c.args.targets.now c.args.query.now.target c.args.self.walks c.search_turned-search.result.answer) same found
+    let found = are_latest road.network (answers_on road) targets law.time law.none walk_law.turned walk_law.in_time query walks answer c.requires.sources has is in
+    subst (λ (r : Road). AreLatest r.network (answers_on r) targets query.target walks answer) same found

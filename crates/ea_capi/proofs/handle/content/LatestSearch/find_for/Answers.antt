@@ -28,5 +28,5 @@ find-requires-clause-problem c =
     let holds : IsTrue c.are_stops.result = (let no = c.if-not-are_stops.false in cc) in
     let are = subst (λ n. AreStops n c.args.targets.now) c.nodes-nodes.ensures (c.are_stops.ensures.0 holds) in
     let query = c.new-query.ensures ∙ ap (λ (xs : List Source). (let asking : Asking = record { sources = xs; target = None } in asking)) c.in-Ok.ensures in
-    stops_make_problem (road_behind c.args.self).network (arc_value c.args.self.turned).network _ c.args.targets.now c.new-query.result (arc_value c.args.self.turned).turned query
-    (arc_value (arc_value c.args.self.turned).terrain).classed are
+    stops_make_problem (road_behind c.args.self).network c.args.self.share.turned.network _ c.args.targets.now c.new-query.result c.args.self.share.turned.turned query
+    (arc_value c.args.self.share.turned.terrain).classed are

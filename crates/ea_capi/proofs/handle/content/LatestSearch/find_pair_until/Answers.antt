@@ -11,7 +11,7 @@ pub find-requires-clause-problem : goal.find-requires-clause-problem
 find-requires-clause-problem c =
     let holds : IsTrue c.is_stop.result = (let no = c.if-not-is_stop.false in cc) in
     let end = subst (λ n. IsStop n c.args.target) c.nodes-nodes.ensures (c.is_stop.ensures.0 holds) in
-    let turned = arc_value c.args.self.turned in
+    let turned = c.args.self.share.turned in
     let is_node : IsNode c.nodes-nodes.result c.args.source = record { from_one = omega (arith, c.if-source-eq0.false); to_last = c.if-source-nodes.false } in
-    pair_makes_problem (road_behind c.args.self).network (arc_value c.args.self.turned).network _ c.args.source c.args.target c.pair-query.result (arc_value c.args.self.turned).turned c.pair-query.ensures
-    (arc_value (arc_value c.args.self.turned).terrain).classed end (subst (λ n. IsNode n c.args.source) c.nodes-nodes.ensures is_node)
+    pair_makes_problem (road_behind c.args.self).network turned.network _ c.args.source c.args.target c.pair-query.result turned.turned c.pair-query.ensures
+    (arc_value turned.terrain).classed end (subst (λ n. IsNode n c.args.source) c.nodes-nodes.ensures is_node)
