@@ -196,7 +196,12 @@ def made_once(program, folder):
     one = seconds(program, "run middle.gr many-ahead.ss --at-once 1", folder)
     for at_once in (2, 4, 16):
         words = f"run middle.gr many-ahead.ss --at-once {at_once}"
-        yield grows(f"resources: {words}, all threads beside one", one, seconds(program, words, folder), 1.7)
+        many = seconds(program, words, folder)
+        for _ in range(4):
+            # A busy machine only adds time. Reports that are made twice take twice the time in each run.
+            if many > 1.8 * one:
+                many = min(many, seconds(program, words, folder))
+        yield grows(f"resources: {words}, all threads beside one", one, many, 1.8)
         if at_once > 4:
             continue  # The share of one of sixteen is too short for the system's clock.
         for _ in range(5):
@@ -265,17 +270,21 @@ def peak(program, words, folder):
     return most
 
 
-def layouts(program, folder):
-    """A grid numbered at random is laid out anew for sixteen problems, and not for one, nor for few nodes; numbered row by row it never is.
-    The copy shows in the memory."""
-    side, rng = 400, random.Random(9)
-    numbers = list(range(side * side))
+def write_grids(folder, side):
+    """Grids of this many nodes a side, one numbered row by row and one at random."""
+    rng, numbers = random.Random(9), list(range(side * side))
     pairs = [(at, at + step) for at in numbers for step in ([1] if at % side < side - 1 else []) + ([side] if at < side * (side - 1) else [])]
     for name in ("rows", "random"):
         if name == "random":
             rng.shuffle(numbers)
         arcs = (f"a {numbers[tail] + 1} {numbers[head] + 1} {1 + at % 97}\n" for at, pair in enumerate(pairs) for tail, head in (pair, pair[::-1]))
         write(folder, f"{name}.gr", [f"p sp {side * side} {2 * len(pairs)}\n", *arcs])
+
+
+def layouts(program, folder):
+    """A grid numbered at random is laid out anew for sixteen problems, and not for one, nor for few nodes; numbered row by row it never is.
+    The copy shows in the memory."""
+    write_grids(folder, 400)
     write(folder, "sixteen.ss", ["p aux sp ss 16\n", *[f"s {1000 * at}\n" for at in range(1, 17)]])
     for name, is_laid_out in (("rows", False), ("random", True)):
         one, many = (peak(program, f"run {name}.gr {sources}.ss --at-once 1", folder) for sources in ("one", "sixteen"))
@@ -288,6 +297,10 @@ def layouts(program, folder):
     write(folder, "two.ss", ["p aux sp ss 2\n", "s 1\n", "s 2\n"])
     rows, scattered = (min(peak(program, f"run {name}.gr sixteen.ss --at-once 1 --nodes two.ss", folder) for _ in range(3)) for name in ("rows", "random"))
     yield "resources: a grid numbered at random, two nodes of sixteen problems: not laid out", scattered <= 1.25 * rows or (rows, scattered), True
+    # A network of this size is worth four workers, which search it as it is.
+    write_grids(folder, 450)
+    rows, scattered = (min(peak(program, f"run {name}.gr sixteen.ss --at-once 1", folder) for _ in range(3)) for name in ("rows", "random"))
+    yield "resources: a larger grid numbered at random, sixteen problems one after another: laid out for one thread alone", (scattered > 1.25 * rows) == (len(os.sched_getaffinity(0)) < 4) or (rows, scattered), True
 
 
 def used_layouts(program, folder):

@@ -136,7 +136,7 @@ pub(crate) fn answer_watched<
     // A search for a few nodes reads less of the network than making a layout does.
     let layout = match few_chosen(files.road.network.nodes(), shown) {
         Some(_) => None,
-        None => layout_for(alloc, rt, &files.road, queries.len(), options),
+        None => layout_for(alloc, rt, &files.road, &queries, options),
     };
     let aids = Aids {
         layout: layout.as_ref(),

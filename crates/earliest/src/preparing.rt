@@ -5,7 +5,7 @@ ghost use Rattle.ea_options.specs.Limits.{AreOptions};
 ghost use Rattle.ea_batch.specs.Solved.{IsLaidOut};
 ghost use Rattle.earliest.specs.Choices.{CanPrepare, are_many, pays_for};
 
-use crate::solver_choice::{asks_for_workers, threads_at_once};
+use crate::solver_choice::{asks_for_workers, goes_ahead, threads_at_once, workers_of};
 use ea_base::{Direction, Watch};
 use ea_layout::Layout;
 use ea_load::Road;
@@ -141,22 +141,35 @@ fn are_many(problems: usize, threads: usize) -> bool
     problems / threads.max(1) >= FEW_PROBLEMS
 }
 
+/// Whether several workers search each of these problems, which they do on the network as it is.
+fn are_for_workers<H: Threads>(rt: &H, road: &Road, queries: &[Query], options: &RunOptions) -> bool
+    requires { AreOptions options.now }
+{
+    if goes_ahead(options, threads_at_once(rt, options), queries.len()) {
+        return false;
+    }
+    match queries.first() {
+        Some(query) => workers_of(rt, road, query, options, false) > 1,
+        None => false,
+    }
+}
+
 /// A layout of the network of a road, if there are enough problems for it to pay, and if it can be made. Workers and
 /// statistics do without.
 pub(crate) fn layout_for<H: Threads>(
     alloc: Global,
     rt: &H,
     road: &Road,
-    problems: usize,
+    queries: &[Query],
     options: &RunOptions,
 ) -> Option<Layout>
     requires { AreOptions options.now }
     ensures { IfSome result (IsLaidOut road.now) }
 {
-    if asks_for_workers(options) {
+    if asks_for_workers(options) || are_for_workers(rt, road, queries, options) {
         return None;
     }
-    if !are_many(problems, threads_at_once(rt, options)) {
+    if !are_many(queries.len(), threads_at_once(rt, options)) {
         return None;
     }
     match Layout::of(alloc, &road.network) {
