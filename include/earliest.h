@@ -107,10 +107,10 @@ static inline uint32_t earliest_road_of_arcs(uint32_t nodes, const uint32_t *tai
 uint32_t earliest_road_nodes(earliest_road *road);
 uint32_t earliest_road_arcs(earliest_road *road);
 /* Prepares a road, so that searches on it for one target (earliest_search_pair) reach few nodes: far pairs take a fraction of the time, and
- * arrivals and walks are the same. It takes seconds for 10^6 nodes, once for all searches. `prepared`, another handle, holds the same road
- * with its preparation then, for every call that takes a road; it has a share of the road, which may be freed before it, and what it held
- * before is freed. Any number of searches, each on another thread, share the preparation. They begin with earliest_search_new on
- * `prepared`; those made on `road`, and queries to all nodes, don't use it. Turned round (earliest_road_turned), `prepared` is prepared for
+ * arrivals and walks are the same. It takes seconds and some 200 MB for 10^6 nodes, once for all searches. `prepared`, another handle,
+ * holds the same road with its preparation then, for every call that takes a road; it has a share of the road, which may be freed before
+ * it, and what it held before is freed. Any number of searches, each on another thread, share the preparation. They begin with
+ * earliest_search_new on `prepared`; those made on `road`, and queries to all nodes, don't use it. Turned round (earliest_road_turned), `prepared` is prepared for
  * latest departures of pairs. Refusals: EARLIEST_NO_ROAD; EARLIEST_NOT_WORTH if the road has too dense a core for searches to gain, as a
  * large grid has; 13; `prepared` is as it was then. */
 uint32_t earliest_road_prepared(earliest_road *road, earliest_road *prepared);

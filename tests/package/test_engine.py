@@ -218,7 +218,7 @@ class Answers(Case):
             times = [30 + 9 * it for it in range(120)]
             want = flat(plain_one.latest(sources, targets, times))
             matrix = [flat(row) for row in plain_one.departures([9, 3], [300, 220])]
-            for source, target, time, found in [*zip(sources, targets, times, want)][::17]:
+            for source, target, time, found in [*zip(sources, targets, times, want)][:40:17]:
                 in_time = [it for it in range(time + 1) if net.least([(source, it)])[target - 1] <= time]
                 self.assertEqual(found, in_time[-1] if in_time else NEVER)
             # The road is turned round before it is prepared, and once more after.
@@ -247,6 +247,8 @@ class Answers(Case):
     def test_pairs_on_a_prepared_road_take_a_fraction_of_the_time(self):
         nodes, tails, heads, weights = plain.grid(150, part=0.65)
         roads = [earliest.Road.of_arcs(nodes, tails, heads, weights) for _ in range(2)]
+        # What was turned round before isn't prepared, and has to go.
+        roads[1].latest(1, 2, 5)
         roads[1].prepare()
         words = random.Random(2)
         sources, targets = ([words.randint(1, nodes) for _ in range(400)] for _ in range(2))
