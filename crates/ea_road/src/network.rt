@@ -6,7 +6,9 @@ ghost use Rattle.ea_road.specs.Roads.{AreSideBySide, FitsNodes, IsArc, IsNetwork
 use crate::arc::Arc;
 use crate::arc_list::ArcList;
 use crate::leaving_arc::LeavingArc;
-use crate::tail_index::{Room, Sums, index_by_tail, numbers_to, sums_of, without_tails};
+use crate::tail_index::{
+    Room, Sums, index_by_tail, index_by_tail_by, numbers_to, sums_of, without_tails,
+};
 use crate::turned_arcs::turned_arcs;
 use ea_base::{MOST_ARCS, MOST_NODES};
 use std::alloc::{AllocError, Global};
@@ -96,7 +98,8 @@ impl Network {
         let (sums, by_tail) = sums_and_room(alloc, rt, nodes, &arcs);
         let (sums, numbers) = sums?;
         let by_tail = by_tail?;
-        Ok(indexed(nodes, arcs, sums, Room { numbers, by_tail }))
+        let room = Room { numbers, by_tail };
+        Ok(indexed_by(rt, nodes, arcs, sums, room))
     }
 
     /// The network with every arc turned round: it leads from the head to the tail, with its number, weight and class. An error comes only
@@ -263,9 +266,57 @@ fn indexed(nodes: u32, arcs: ArcList, sums: Sums, room: Room) -> Network
         top,
         mean,
         ascending,
+        parts,
         ends: mut starts,
     } = sums;
-    let Room { numbers, by_tail } = index_by_tail(nodes, &arcs, ascending, &mut starts, room);
+    let Room { numbers, by_tail } = index_by_tail(
+        nodes,
+        &arcs,
+        ascending,
+        parts,
+        &mut starts,
+        room,
+    );
+    Network {
+        nodes,
+        arcs,
+        starts,
+        numbers,
+        by_tail,
+        top,
+        mean,
+    }
+}
+
+/// The same; the index is built in several threads if that is worth it and others can be started.
+fn indexed_by<H: Threads + Sync>(
+    rt: &H,
+    nodes: u32,
+    arcs: ArcList,
+    sums: Sums,
+    room: Room,
+) -> Network
+    requires network { IsNetwork (record { nodes = nodes; arcs = arcs }) }
+    requires sums { AreSums nodes arcs sums }
+    requires room { IsRoom arcs room }
+    ensures { result ≡ record { nodes = nodes; arcs = arcs } }
+{
+    let Sums {
+        top,
+        mean,
+        ascending,
+        parts,
+        ends: mut starts,
+    } = sums;
+    let Room { numbers, by_tail } = index_by_tail_by(
+        rt,
+        nodes,
+        &arcs,
+        ascending,
+        parts,
+        &mut starts,
+        room,
+    );
     Network {
         nodes,
         arcs,
