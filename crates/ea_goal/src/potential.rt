@@ -9,7 +9,7 @@ use ea_hierarchy::{Bounds, Prepared};
 const LOOKS: u32 = 2;
 
 /// How many times farther each of them ends than the one before.
-const FARTHER: u32 = 4;
+const FARTHER: u32 = 2;
 
 /// Bounds of the travel time to the target of a search.
 #[derive(Drop)]
@@ -20,9 +20,8 @@ pub(crate) struct Potential {
 }
 
 impl Potential {
-    /// Begins bounds to a target, from a source that is farther from it than the distance that was searched. If the network has large cuts,
-    /// bounds that end at a small multiple of that distance come first, since they look at few upward arcs; they serve if the source's bound
-    /// is nearer.
+    /// Begins bounds to a target, from a source that is farther from it than the distance that was searched. Bounds that end not far behind the
+    /// source come first, since they look at few upward arcs; they serve if the source's bound is nearer than their end.
     pub(crate) fn begin(&mut self, prepared: &Prepared, source: u32, target: u32, searched: u64)
         requires room { IsRoomFor prepared.now self.old.bounds }
         requires source { (0 < source) × (source ≤ length prepared.now.ranks) }
@@ -30,9 +29,9 @@ impl Potential {
         ensures { AreBoundsTo prepared.now target self.new.bounds }
     {
         self.asked = 0;
-        let mut far = searched.min(u64::from(u32::MAX)) as u32;
-        let looks = if prepared.has_large_cuts() { LOOKS } else { 0 };
-        for _ in 0..looks {
+        let searched = searched.min(u64::from(u32::MAX)) as u32;
+        let mut far = prepared.apart(source, target).max(searched);
+        for _ in 0..LOOKS {
             far = far.saturating_mul(FARTHER);
             self.bounds.begin(prepared, target, far);
             if let Some(bound) = self.bounds.bound(prepared, source) {

@@ -1,11 +1,13 @@
 //! A prepared road: an order of the nodes, upward arcs, and bounds of the travel time to a target.
 #![tactic(auto)]
 
+mod bit_rows;
 mod bounds;
 mod cells;
 mod chains;
 mod cover;
 mod customize;
+mod landmarks;
 pub mod laws;
 mod numbers;
 mod order;
@@ -21,6 +23,6 @@ pub use bounds::Bounds;
 pub use ea_road::OutOfMemory;
 pub use numbers::{MOST, NONE};
 pub use postorder::elimination_order;
-pub use prepared::Prepared;
+pub use prepared::{FIRST_NEAR, Prepared};
 pub use ranks::is_order;
 pub use unprepared::Unprepared;

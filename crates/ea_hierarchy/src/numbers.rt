@@ -46,3 +46,12 @@ pub(crate) fn capped(low: u64) -> u32
 {
     low.min(u64::from(MOST)) as u32
 }
+
+/// The number at a place of a list; `NONE` if there is none.
+#[inline(always)]
+pub(crate) fn number_at(list: &[u32], place: usize) -> u32 {
+    match list.get(place) {
+        Some(number) => *number,
+        None => NONE,
+    }
+}

@@ -1,4 +1,5 @@
 //! An elimination order: the cheapest node first, by its degree and its level.
+use crate::bit_rows::BitRows;
 use crate::numbers::NONE;
 use crate::upward::Limits;
 use ea_road::Network;
@@ -12,6 +13,12 @@ const COSTS: usize = 4096;
 /// A list in order is merged with one of at least this part of its length; shorter ones are put behind it.
 const PART: usize = 8;
 
+/// When at most this many nodes are left, rows of bits take the place of lists.
+const FEW: usize = 8192;
+
+/// And at most this part of all nodes, since rows take memory by the square of their number.
+const PART_OF_ALL: usize = 16;
+
 /// Nodes are eliminated one after the other: the neighbours of one become neighbours of one another. Nodes
 /// count from 0 here.
 #[derive(Drop)]
@@ -23,6 +30,8 @@ pub(crate) struct Elimination {
     sizes: Vec<u32>,
     /// The last union of two lists, in its first places.
     union: Vec<u32>,
+    /// The neighbours of each node once few are left, in place of the lists.
+    rows: BitRows,
     /// One above the highest eliminated neighbour's.
     levels: Vec<u32>,
     gone: Vec<bool>,
@@ -30,6 +39,8 @@ pub(crate) struct Elimination {
     waiting: Vec<VecDeque<u32>>,
     /// No node that is left costs less.
     cheapest: usize,
+    /// What was read ahead, so that it is read.
+    touched: u64,
     pub(crate) order: Vec<u32>,
     /// The neighbours that were left of each node of the order, one node's after the other's.
     pub(crate) above: Vec<u32>,
@@ -169,10 +180,12 @@ impl Elimination {
             around,
             sizes,
             union: Vec::new(alloc),
+            rows: BitRows::none(alloc),
             levels: vec![in alloc; 0; nodes]?,
             gone: vec![in alloc; false; nodes]?,
             waiting,
             cheapest: 0,
+            touched: 0,
             order: Vec::with_capacity(alloc, nodes)?,
             above: Vec::new(alloc),
             ends: Vec::with_capacity(alloc, nodes)?,
@@ -186,13 +199,21 @@ impl Elimination {
         }
     }
 
-    /// Four times the degree, and the level.
-    fn cost(&self, node: u32) -> usize {
-        let degree = match self.around.get(node as usize) {
+    /// The number of neighbours that are left; in a list that isn't in order some count more than once.
+    fn degree(&self, node: u32) -> usize {
+        if self.rows.are_there() {
+            return self.rows.degree(node);
+        }
+        match self.around.get(node as usize) {
             Some(list) => list.len(),
             None => 0,
-        };
-        let cost = degree
+        }
+    }
+
+    /// Four times the degree, and the level.
+    fn cost(&self, node: u32) -> usize {
+        let cost = self
+            .degree(node)
             .saturating_mul(4)
             .saturating_add(self.level(node) as usize);
         cost.min(COSTS - 1)
@@ -275,10 +296,9 @@ impl Elimination {
         neighbour: u32,
     ) -> Result<(), AllocError> {
         let place = neighbour as usize;
-        if place >= self.around.len() || place >= self.levels.len() || place >= self.sizes.len() {
+        if place >= self.around.len() || place >= self.sizes.len() {
             return Ok(());
         }
-        self.levels[place] = self.levels[place].max(self.level(node).saturating_add(1));
         let length = self.around[place].len();
         if self.is_in_order(place, length) && length / PART <= others.len() {
             let count = unite(
@@ -291,30 +311,82 @@ impl Elimination {
             self.around[place].clear();
             self.around[place].extend_from_slice(&self.union[..end])?;
             self.sizes[place] = count_of(self.around[place].len());
-            return self.put(neighbour);
+            return Ok(());
         }
         self.around[place].extend_from_slice(others)?;
         if self.around[place].len() / 2 >= self.sizes[place] as usize {
             let list = self.taken_around(alloc, neighbour);
             self.keep_around(neighbour, list);
         }
-        self.put(neighbour)
+        Ok(())
+    }
+
+    /// Reads what the unions of some nodes begin with, one after the other: the processor fetches them at the same time, so that no union has
+    /// to wait for memory by itself.
+    fn touch(&mut self, nodes: &[u32]) {
+        for node in nodes {
+            let length = self.degree(*node) as u64;
+            let level = u64::from(self.level(*node));
+            self.touched = self.touched.wrapping_add(length).wrapping_add(level);
+        }
+        for node in nodes {
+            if let Some(list) = self.around.get(*node as usize) {
+                if let Some(first) = list.first() {
+                    self.touched = self.touched.wrapping_add(u64::from(*first));
+                }
+            }
+        }
+    }
+
+    /// Joins the neighbours of a node with one another. Returns them.
+    fn joined_around(&mut self, alloc: Global, node: u32) -> Result<Vec<u32>, AllocError> {
+        if self.rows.are_there() {
+            return self.rows.eliminate(alloc, node);
+        }
+        let others = self.taken_around(alloc, node);
+        self.touch(&others);
+        for neighbour in &others {
+            self.join_all(alloc, node, &others, *neighbour)?;
+        }
+        Ok(others)
+    }
+
+    /// Raises a node above a neighbour that is eliminated, and puts it to those of its cost.
+    fn rise(&mut self, node: u32, neighbour: u32) -> Result<(), AllocError> {
+        let level = self.level(neighbour).saturating_add(1);
+        if let Some(slot) = self.levels.get_mut(node as usize) {
+            *slot = level.max(*slot);
+        }
+        self.put(node)
     }
 
     /// Eliminates a node. Returns its degree.
     fn eliminate(&mut self, alloc: Global, node: u32) -> Result<usize, AllocError> {
-        let others = self.taken_around(alloc, node);
         let place = node as usize;
         if place < self.gone.len() {
             self.gone[place] = true;
         }
+        let others = self.joined_around(alloc, node)?;
         self.order.push(node.saturating_add(1))?;
         for neighbour in &others {
-            self.join_all(alloc, node, &others, *neighbour)?;
+            self.rise(*neighbour, node)?;
         }
         self.above.extend_from_slice(&others)?;
         self.ends.push(count_of(self.above.len()))?;
         Ok(others.len())
+    }
+
+    /// Makes rows of the nodes that are left, which are few, in place of lists.
+    fn make_rows(&mut self, alloc: Global) -> Result<(), AllocError> {
+        self.rows = BitRows::of(alloc, &self.around, &self.gone)?;
+        self.around = Vec::new(alloc);
+        // Their costs are exact now.
+        for node in 0..count_of(self.gone.len()) {
+            if self.is_left(node) {
+                self.put(node)?;
+            }
+        }
+        Ok(())
     }
 }
 
@@ -330,7 +402,12 @@ pub(crate) fn eliminate_all(
     }
     let mut arcs = 0u64;
     let mut triangles = 0u64;
-    for _ in 0..network.nodes() {
+    let nodes = network.nodes() as usize;
+    let few = nodes.saturating_sub(FEW.min(nodes / PART_OF_ALL));
+    for done in 0..nodes {
+        if done == few {
+            elimination.make_rows(alloc)?;
+        }
         let Some(node) = elimination.next() else {
             return Ok(Some(elimination));
         };

@@ -9,6 +9,7 @@ ghost use Rattle.ea_hierarchy.specs.declared.unprepared.Unprepared.TheVariants.{
 use crate::chains::chains_of;
 use crate::cover::cover;
 use crate::customize::{Numbers, relax};
+use crate::landmarks::Landmarks;
 use crate::numbers::NONE;
 use crate::postorder::elimination_order;
 use crate::ranks::{is_order, ranks_of};
@@ -35,6 +36,7 @@ pub struct Prepared {
     chains: Vec<bool>,
     /// How many nodes a search may scan in less than the time of a first bound.
     near: u32,
+    landmarks: Landmarks,
 }
 
 impl Model for Prepared {
@@ -89,28 +91,30 @@ fn upward_over(
     }
 }
 
-/// How many nodes are near if the network has small cuts, and ranks are close.
-const LEAST_NEAR: u32 = 1_400;
+/// How many nodes a search scans before `Prepared::near` is asked.
+pub const FIRST_NEAR: u32 = 128;
 
-/// The same if ranks aren't close.
-const LEAST_APART: u32 = 350;
+/// How many nodes are near if the network has small cuts.
+const LEAST_NEAR: u32 = 1_100;
 
 /// How many upward arcs on a way up there are for each node that is near, if it has large ones.
 const ARCS_A_NODE: u64 = 64;
 
-/// Ranks are close if they differ by less than this many times `LEAST_NEAR`.
-const RANKS_A_NODE: u32 = 4;
-
-/// If there are large cuts, and ranks differ by more than this part of all ranks, fewer nodes are near.
-const PARTS: u32 = 8;
-
-/// The part of them that is near then.
-const FEWER: u32 = 4;
-
 /// How many nodes a search without bounds may scan in less than the time of a first bound.
 fn near_by(upward: &Upward) -> u32 {
     let nodes = mean_arcs_above(upward) / ARCS_A_NODE;
-    nodes.min(u64::from(NONE)) as u32
+    (nodes.min(u64::from(NONE)) as u32).max(LEAST_NEAR)
+}
+
+/// Whether a target that is this far away is likely to have more nodes before it than may be scanned, if `FIRST_NEAR` of them are as near as was
+/// searched: their number grows with the square of the distance. Some more are allowed, since landmarks make it shorter.
+fn is_beyond(apart: u32, searched: u64, near: u32) -> bool {
+    let apart = u64::from(apart);
+    let nodes = apart
+        .saturating_mul(apart)
+        .saturating_mul(u64::from(FIRST_NEAR));
+    let most = u64::from(near.saturating_add(LEAST_NEAR));
+    nodes > searched.saturating_mul(searched).saturating_mul(most)
 }
 
 /// Numbers at upward arcs for these travel times.
@@ -227,6 +231,8 @@ impl Prepared {
         let numbers = numbers_for(alloc, network, times, &ranks, &upward)?;
         let chains = chains_of(alloc, network)?;
         let near = near_by(&upward);
+        let mut landmarks = Landmarks::none(alloc);
+        landmarks.fill(&upward, &numbers)?;
         let mut trimmed_ups = Trimmed::none(alloc);
         trimmed_ups.fill(&upward, &numbers.ups)?;
         let mut trimmed_downs = Trimmed::none(alloc);
@@ -239,11 +245,12 @@ impl Prepared {
             trimmed_downs,
             chains,
             near,
+            landmarks,
         })
     }
 
-    /// Makes the numbers anew for other travel times of the same arcs. If memory for the rows of arcs that are left is refused, bounds are
-    /// found more slowly.
+    /// Makes the numbers anew for other travel times of the same arcs. If memory for the rows of arcs that are left or for landmarks is
+    /// refused, searches are slower.
     pub fn customize<T: TravelTimes>(&mut self, network: &Network, times: &T)
         requires classes { top_class network.now.arcs ≤ T.classes times.now }
         requires over { IsPreparedOver network.now self.old }
@@ -255,6 +262,7 @@ impl Prepared {
         relax(&self.upward, &mut self.numbers);
         let _ = self.trimmed_ups.fill(&self.upward, &self.numbers.ups);
         let _ = self.trimmed_downs.fill(&self.upward, &self.numbers.downs);
+        let _ = self.landmarks.fill(&self.upward, &self.numbers);
     }
 
     /// The number of nodes.
@@ -293,24 +301,21 @@ impl Prepared {
             .saturating_add(self.trimmed_downs.left_out)
     }
 
-    /// How many nodes a search from a source may scan before it is led by bounds to a target: less than take the time of a first bound. In a
-    /// network with small cuts that time is short. A target whose rank is far from the source's is in another part, and rarely near.
-    pub fn near(&self, source: u32, target: u32) -> u32 {
-        let apart = self.rank(source).abs_diff(self.rank(target));
-        if self.has_large_cuts() {
-            let is_far = apart > self.nodes() / PARTS;
-            return if is_far { self.near / FEWER } else { self.near };
-        }
-        if apart < LEAST_NEAR * RANKS_A_NODE {
-            LEAST_NEAR
+    /// How many more nodes a search from a source may scan before it is led by bounds to a target, once it scanned `FIRST_NEAR` of them, up to
+    /// this time after its departure: less than take the time of a first bound. None if the target is likely to be beyond them.
+    pub fn near(&self, source: u32, target: u32, searched: u64) -> u32 {
+        let apart = self.apart(source, target);
+        if is_beyond(apart, searched, self.near) {
+            0
         } else {
-            LEAST_APART
+            self.near
         }
     }
 
-    /// Whether a way up has many arcs, so that a first bound takes longer than a search of some thousand nodes.
-    pub fn has_large_cuts(&self) -> bool {
-        LEAST_NEAR < self.near
+    /// How far apart two nodes are by landmarks; 0 if it isn't known. No more than the least travel time between them if all arcs take as
+    /// long in both directions. A hint for what to try first, and no bound.
+    pub fn apart(&self, source: u32, target: u32) -> u32 {
+        self.landmarks.apart(self.rank(source), self.rank(target))
     }
 
     /// The rank of a node; 0 if there is no such node.

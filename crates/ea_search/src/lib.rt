@@ -9,7 +9,7 @@ mod log;
 mod prefetch;
 mod queue;
 
-pub use buckets::bucket_search::{search, search_near};
+pub use buckets::bucket_search::{search, search_farther, search_near};
 pub use buckets::frontier::{Frontier, empty_lists};
 pub use buckets::offer_count::count_offers;
 pub use buckets::ordered_finish::finish_in_order;

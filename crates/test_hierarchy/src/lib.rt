@@ -6,6 +6,8 @@ mod asked;
 #[cfg(test)]
 mod bounds;
 #[cfg(test)]
+mod near;
+#[cfg(test)]
 mod orders;
 #[cfg(test)]
 mod pairs;

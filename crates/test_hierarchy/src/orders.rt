@@ -2,8 +2,9 @@
 ghost use Rattle.ea_hierarchy.specs.Bounds.{IsRoomFor};
 
 use crate::bounds::{first_wrong, plain_sums};
+use crate::near::grid;
 use crate::random::{number_to, random_network, times_of_all_kinds};
-use ea_hierarchy::{Bounds, Prepared, Unprepared, is_order};
+use ea_hierarchy::{Bounds, Prepared, Unprepared, elimination_order, is_order};
 use ea_road::{Arc, Network};
 use ea_travel_times::Timetables;
 use rand_core::{Rng, SeedableRng};
@@ -322,53 +323,6 @@ fn arcs_that_others_replace_are_left_out(rt: HostRuntime) -> Result<(), Fail> {
     Ok(())
 }
 
-/// How many nodes are near node 1, on the way to this one, over a preparation of a shape, in turn; none if it is none.
-fn near_in(
-    alloc: Global,
-    shape: Shape,
-    nodes: u32,
-    target: u32,
-) -> Result<Option<u32>, Unprepared> {
-    let Some(network) = network_of_shape(alloc, shape, nodes)? else {
-        return Ok(None);
-    };
-    let Some(times) = times_of_all_kinds(alloc)? else {
-        return Ok(None);
-    };
-    if network.top_class() as usize > times.classes() {
-        return Ok(None);
-    }
-    let order = in_turn(alloc, nodes)?;
-    let prepared = Prepared::with_order(alloc, &network, &times, &order)?;
-    Ok(Some(prepared.near(1, target)))
-}
-
-#[test]
-fn nodes_are_near_by_their_ranks_if_ways_up_are_short(rt: HostRuntime) -> Result<(), Fail> {
-    let alloc = rt.alloc();
-    for (target, wanted) in [(2, 1_400), (5_600, 1_400), (5_601, 350), (6_000, 350)] {
-        let near = near_in(alloc, Shape::Path, 6_000, target).map_err(|_| "prepared")?;
-        assert_eq!(rt; near, Some(wanted));
-    }
-    Ok(())
-}
-
-#[test]
-fn more_nodes_are_near_if_ways_up_are_long(rt: HostRuntime) -> Result<(), Fail> {
-    // 1,000 nodes that are all joined: from the ranks that are looked at there are on average 177,000 arcs to the top. A fourth is near if
-    // ranks differ by more than an eighth of all.
-    for (target, least, most) in [
-        (2, 2_400, 2_800),
-        (126, 2_400, 2_800),
-        (127, 600, 700),
-        (1_000, 600, 700),
-    ] {
-        let near = near_in(rt.alloc(), Shape::Clique, 1_000, target).map_err(|_| "prepared")?;
-        assert!(rt; near > Some(least) && near < Some(most));
-    }
-    Ok(())
-}
-
 /// Whether a preparation of a path gives back the order over which it was made, backwards or with two halves in turn.
 fn gives_back(alloc: Global, nodes: u32, is_backwards: bool) -> Result<bool, Unprepared> {
     let Some(network) = network_of_shape(alloc, Shape::Path, nodes)? else {
@@ -396,6 +350,28 @@ fn the_order_is_given_back(rt: HostRuntime) -> Result<(), Fail> {
     for is_backwards in [false, true] {
         let is_same = gives_back(rt.alloc(), 50, is_backwards).map_err(|_| "prepared")?;
         assert!(rt; is_same);
+    }
+    Ok(())
+}
+
+/// Whether each node of a network is eliminated once.
+fn eliminates_each(alloc: Global, network: Option<Network>) -> Result<bool, Unprepared> {
+    let Some(network) = network else {
+        return Ok(false);
+    };
+    let order = elimination_order(alloc, &network)?;
+    Ok(is_order(alloc, network.nodes(), &order)?)
+}
+
+#[test]
+fn each_node_is_eliminated_once(rt: HostRuntime) -> Result<(), Fail> {
+    let alloc = rt.alloc();
+    let is_whole = eliminates_each(alloc, grid(alloc)?).map_err(|_| "an order")?;
+    assert!(rt; is_whole);
+    for shape in [Shape::Path, Shape::Star] {
+        let network = network_of_shape(alloc, shape, 1_000)?;
+        let is_whole = eliminates_each(alloc, network).map_err(|_| "an order")?;
+        assert!(rt; is_whole);
     }
     Ok(())
 }

@@ -5,17 +5,20 @@ ghost use Rattle.ea_road.specs.Labels.{label_of};
 ghost use Rattle.ea_hierarchy.specs.Preparations.{IsPreparedFor};
 ghost use Rattle.ea_goal.specs.Led.{IsLedTo};
 ghost use Rattle.ea_road.specs.Queries.{IsProblem};
-ghost use Rattle.ea_search.specs.Listings.{Searched};
-ghost use Rattle.ea_search.specs.Underway.{IsFinished};
+ghost use Rattle.ea_search.specs.Frontiers.{HaveNone, WaitsAt};
+ghost use Rattle.ea_search.specs.Listings.{AreLabelsListed, Searched};
+ghost use Rattle.ea_search.specs.Scans.{AwaitsScans};
+ghost use Rattle.ea_search.specs.Searching.{CanStartAnew, KeepsRoom};
+ghost use Rattle.ea_search.specs.Underway.{IsFinished, bound_of};
 ghost use Rattle.ea_paths.specs.Searches.{AreLabelled, AreReset, AsksPair, CanBegin, CanFind, CanLead, EndsNear, GetLabels, HasFound, HasFoundWalks, IsUnlinked};
 
 use crate::answer::Answer;
 use crate::link_search::link_all;
 use crate::search::{Arrays, Search, width_without_walks};
 use ea_goal::{Guide, Led, lead};
-use ea_hierarchy::Prepared;
-use ea_road::{Network, Query, Source};
-use ea_search::{Frontier, Open, Reached, Table, finish_noted, search_near};
+use ea_hierarchy::{FIRST_NEAR, Prepared};
+use ea_road::{Network, Query};
+use ea_search::{Frontier, Open, Reached, Table, finish_noted, search_farther, search_near};
 use ea_travel_times::TravelTimes;
 use std::alloc::Global;
 
@@ -147,24 +150,53 @@ fn lead_arrays<T: TravelTimes>(
     (arrays, is_found)
 }
 
-/// How many nodes near the first source may be scanned before bounds are begun.
-fn near_of(prepared: &Prepared, sources: &[Source], target: u32) -> u32 {
-    match sources.first() {
-        Some(source) => prepared.near(source.node, target),
-        None => 0,
-    }
+/// How many more nodes near the first source may be scanned before bounds are begun, after a search up to a time.
+fn near_of(prepared: &Prepared, query: &Query, until: u64) -> u32 {
+    let Some(target) = query.target() else {
+        return 0;
+    };
+    let Some(source) = query.sources().first() else {
+        return 0;
+    };
+    prepared.near(source.node, target, until.saturating_sub(source.departure))
 }
 
-/// Searches from the sources on a reset table and empty lists until each label is least, unless about as many nodes were scanned as `most`
-/// says: then returns up to which time.
+/// Searches some nodes near the sources, and more of them if the target seems to be near. Returns whether the search ended.
+fn search_around<T: TravelTimes, L: Table>(
+    network: &Network,
+    times: &T,
+    prepared: &Prepared,
+    query: &Query,
+    table: &mut L,
+    frontier: &mut Frontier,
+) -> bool
+    requires can { CanStartAnew network.now (T.classes times.now) query.now
+        (L.labels table.old) frontier.old.todo.nodes }
+    ensures underway { AwaitsScans network.now (T.answers times.now) query.now
+        (L.labels table.new) (L.met table.new)
+        (WaitsAt frontier.new (bound_of (L.labels table.new))) }
+    ensures room { KeepsRoom frontier.old.todo frontier.new.todo }
+    ensures none { result ≡ true → HaveNone frontier.new.lists }
+    ensures listed { AreLabelsListed (L.labels table.new) (L.lists table.new) }
+{
+    let first = u64::from(FIRST_NEAR);
+    if search_near(network, times, query, table, frontier, first) {
+        return true;
+    }
+    let most = near_of(prepared, query, frontier.low());
+    search_farther(network, times, query, table, frontier, u64::from(most))
+}
+
+/// Searches near the sources on a reset table and empty lists until each label is least, unless that takes more nodes than those around: then
+/// returns up to which time it searched.
 fn find_near<T: TravelTimes, L: Table>(
     network: &Network,
     times: &T,
+    prepared: &Prepared,
     query: &Query,
     lists: Vec<Vec<(u64, u32)>>,
     todo: Open,
     table: &mut L,
-    most: u32,
 ) -> (Vec<Vec<(u64, u32)>>, Open, Option<u64>)
     requires problem { IsProblem network.now (T.classes times.now) query.now }
     requires begins { CanBegin network.now.nodes (L.labels table.old) (L.had table.old)
@@ -175,8 +207,7 @@ fn find_near<T: TravelTimes, L: Table>(
         (L.labels table.new) result.1 }
 {
     let mut frontier = Frontier::over(lists, todo, width_without_walks(network));
-    let most = u64::from(most);
-    if search_near(network, times, query, table, &mut frontier, most) {
+    if search_around(network, times, prepared, query, table, &mut frontier) {
         let (lists, todo) = frontier.into_parts();
         let todo = finish_noted(network, times, query, table, todo);
         return (lists, todo, None);
@@ -192,9 +223,9 @@ fn search_arrays<T: TravelTimes>(
     arrays: Arrays,
     network: &Network,
     times: &T,
+    prepared: &Prepared,
     query: &Query,
     target: u32,
-    most: u32,
 ) -> (Arrays, Option<u64>)
     requires pair { AsksPair network.now (T.classes times.now) query.now target }
     requires reset { AreReset network.now.nodes arrays.todo.walks arrays }
@@ -216,7 +247,15 @@ fn search_arrays<T: TravelTimes>(
         labels: table,
         listed,
     };
-    let (lists, todo, until) = find_near(network, times, query, lists, todo, &mut reached, most);
+    let (lists, todo, until) = find_near(
+        network,
+        times,
+        prepared,
+        query,
+        lists,
+        todo,
+        &mut reached,
+    );
     let Reached { labels, listed } = reached;
     let arrays = Arrays {
         table: labels,
@@ -303,14 +342,13 @@ impl Search {
         ensures { HasFound network.now (T.answers times.now) query.now self result }
     {
         let walks = self.walks;
-        let near = near_of(prepared, query.sources(), target);
         let (arrays, until) = search_arrays(
             self.into_arrays(),
             network,
             times,
+            prepared,
             query,
             target,
-            near,
         );
         let Some(until) = until else {
             return answered(arrays, walks, network, times, query, target);

@@ -187,6 +187,30 @@ pub fn search<T: TravelTimes, L: Table>(
     exhaust(network, times, query, table, frontier, None);
 }
 
+/// Continues a search, and gives up once about as many more nodes were scanned as `most` says. Returns whether it ended.
+pub fn search_farther<T: TravelTimes, L: Table>(
+    network: &Network,
+    times: &T,
+    query: &Query,
+    table: &mut L,
+    frontier: &mut Frontier,
+    most: u64,
+) -> bool
+    requires can { CanSearchOn network.now (T.answers times.now) (T.classes times.now) query.now
+        (L.labels table.old) (L.met table.old)
+        (WaitsAt frontier.old (bound_of (L.labels table.old))) frontier.old.todo.nodes }
+    requires listed { AreLabelsListed (L.labels table.old) (L.lists table.old) }
+    ensures underway { AwaitsScans network.now (T.answers times.now) query.now
+        (L.labels table.new) (L.met table.new)
+        (WaitsAt frontier.new (bound_of (L.labels table.new))) }
+    ensures room { KeepsRoom frontier.old.todo frontier.new.todo }
+    ensures none { result ≡ true → HaveNone frontier.new.lists }
+    ensures listed { AreLabelsListed (L.labels table.new) (L.lists table.new) }
+{
+    network.keeps_limits();
+    exhaust(network, times, query, table, frontier, Some(most))
+}
+
 /// Searches like `search`, and gives up once about as many nodes were scanned as `most` says. Returns whether it ended.
 pub fn search_near<T: TravelTimes, L: Table>(
     network: &Network,
@@ -207,7 +231,7 @@ pub fn search_near<T: TravelTimes, L: Table>(
 {
     network.keeps_limits();
     begin(network, times, query, table, frontier);
-    exhaust(network, times, query, table, frontier, Some(most))
+    search_farther(network, times, query, table, frontier, most)
 }
 
 /// Continues from the labels in the table; the open nodes wait in the frontier's list. The nodes that still

@@ -1,4 +1,4 @@
-use Rattle.std.proofs.Common.{arith, length, rules, subst, sym, ◌<◌, ◌≡◌, ◌∙◌, ℕ}
+use Rattle.std.proofs.Common.{arith, rules, subst, sym, ◌∙◌}
 use Rattle.std.specs.Prelude.{slice_index}
 use Rattle.ea_hierarchy.specs.Hierarchies.{IsFrom, IsLowest}
 use Rattle.ea_hierarchy.proofs.Finding.{read_at}
