@@ -61,9 +61,10 @@ Pairs whose search reaches about 1,000 nodes each, by hand with a stamp beside e
 PREPARED = """## Pairs over a prepared road
 
 300 pairs each, departing at 0 on plain weights: by Dijkstra rank, the target being the 2^r-th node that a search settles, and far ones at
-random. Ours is timed by a proved program (`bench/prepared/program`), on the road prepared and as it is; beside it is the same method in plain
-C++ (`bench/prepared/hand.cpp`). Both number the network by their order. Microseconds a pair, the least, middle and greatest of three rounds or more;
-the preparation in milliseconds.
+random. Ours is timed by a proved program (`bench/prepared/program`), on the road prepared and as it is; beside it is a program in plain C++ with
+the same order and bounds (`bench/prepared/hand.cpp`), which are asked for from the first node on and have no end. Both number the network by
+their order. The far pairs are searched at seven in the morning with traffic patterns, too, by the Python package. Microseconds a pair, the least,
+middle and greatest of three rounds or more; the preparation in milliseconds.
 """
 
 ASKED = """## Asked nodes
@@ -267,7 +268,7 @@ def prepared_on(network, rows):
             if row and name.startswith("2^"):
                 lines.setdefault(program, []).append((2 ** int(name[2:]), middles[program]))
         base, ours, plain = middles.values()
-        cells[3:] = [f"{ours / base:.2f}", cells[3], f"{plain / ours:.1f} times" if plain else ""]
+        cells[3:] = [f"{ours / base:.2f}" if base else "", cells[3], f"{plain / ours:.1f} times" if plain else ""]
         out.append("| " + " | ".join(cells) + " |")
     picture = "pairs-by-rank" if network == prepared_turns.GRID else f"pairs-by-rank-{network}"
     drawn(picture, f"Pairs by Dijkstra rank, {network}, microseconds each", "rank of the target", "microseconds", list(lines.items()))

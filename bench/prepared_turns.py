@@ -5,8 +5,8 @@
 Without a graph it makes a road-like grid of 10^6 nodes, whose cuts are larger than those of any real network, and a country of towns and
 motorways. Pairs are by Dijkstra rank, the target being the 2^r-th node that a search from the source settles, and far ones at random. Both
 programs are built, run in turns on the same files, and have to reach all targets at the same times; ours searches without the preparation,
-too. It prints the least, the middle and the greatest of the rounds, in microseconds a pair. `make bench` writes the same as tables and
-pictures of the page.
+too. The far ones are also searched by the Python package with traffic patterns, when most roads are slow. It prints the least, the middle and
+the greatest of the rounds, in microseconds a pair. `make bench` writes the same as tables and pictures of the page.
 """
 import os
 import random
@@ -14,13 +14,15 @@ import re
 import statistics
 import subprocess
 import sys
+import time
 
 sys.dont_write_bytecode = True
 import programs
+import python_search
 import workspace
 
 FIELDS = ("network", "nodes", "pairs", "program", "least", "middle", "greatest")
-RANKS, FAR, COUNT, TURNS = (10, 12, 14, 16, 18), "far", 300, 2
+RANKS, FAR, PEAK, COUNT, TURNS = (9, 10, 11, 12, 13, 14, 16, 18), "far", "far, in the morning", 300, 2
 CPP, LED, PLAIN = "in plain C++", "earliest", "earliest, unprepared"
 GRID, COUNTRY = "road-like grid", "country"
 
@@ -69,7 +71,32 @@ def measured(cpp, ours, hand, name_of, graph, scratch):
             sys.exit(f"the arrivals of {name} differ: their sums are {sorted(sums)}")
         rows += [(name_of, nodes, name, program, *spread(some)) for program, some in times.items()]
         print(f"prepared: {name_of}, pairs {name}, done", flush=True)
+    rows += [(name_of, nodes, PEAK, program, *spread(some)) for program, some in in_the_morning(graph, files[FAR]).items()]
     return rows + [(name_of, nodes, "preparation", program, *spread(some)) for program, some in prepared.items()]
+
+
+def in_the_morning(graph, pairs):
+    """The microseconds a pair of some rounds by the Python package, with traffic patterns that begin when most roads are slow; none without it."""
+    patterns = graph.removesuffix(".gr") + ".patterns.tp"
+    if not python_search.is_there() or not os.path.exists(patterns):
+        return {}
+    sys.path.insert(0, python_search.PACKAGE)
+    import earliest
+
+    with open(pairs, encoding="ascii") as file:
+        asked = [tuple(map(int, line.split()[1:])) for line in file if line.startswith("q")]
+    road, times, sums = earliest.Road.read(graph, tp=patterns), {PLAIN: [], LED: []}, set()
+    for program, some in times.items():
+        if program == LED:
+            road.prepare()
+        search = road.searcher(walks=False)
+        for _ in range(3):
+            begun = time.perf_counter()
+            sums.add(sum(search.pair(source, programs.DEPART, target) or 0 for source, target in asked))
+            some.append((time.perf_counter() - begun) * 1e6 / len(asked))
+    if len(sums) != 1:
+        sys.exit(f"the arrivals of {pairs} in the morning differ: their sums are {sorted(sums)}")
+    return times
 
 
 def country(scratch, nodes):
