@@ -1,5 +1,6 @@
 """Pairs over a prepared road, and many sources on a network whose nodes are numbered at random: the same bytes as
 without, in less time."""
+import itertools
 import os
 import random
 import subprocess
@@ -160,10 +161,11 @@ def in_less_time(program, folder):
 
 
 def near_pairs(program, folder):
-    """Near pairs on a prepared road take about the processor time of a search without: what 4,000 more pairs add. Were each led by bounds, or
-    all labels put back after each, it would be ten times as much."""
+    """Near pairs on a prepared road take about the processor time of a search without: what 640,000 more pairs add, which is more than what the
+    preparation's own time varies by. Were each led by bounds, it would be twice as much, and several times as much if all labels of the layout
+    were put back after each."""
     words = random.Random(8)
-    side, near, added, reports = 700, 8, {}, {}
+    side, near, reports, least = 700, 4, {}, {}
     write(folder, "gr", graph(side * side, grid(side, words)))
     asked = []
     for _ in range(8_000):
@@ -173,28 +175,38 @@ def near_pairs(program, folder):
     told = ran(program, "pairs gr all --prepare no", folder)[1].split(b"\n")[1::2]
     # The search for a target that can't be reached goes everywhere.
     asked = [line for line, said in zip(asked, told) if not said.endswith(b"inf")][:4_001]
-    for name, lines in (("one", asked[:1]), ("all", asked)):
+    for name, lines in (("one", asked[:1]), ("all", 160 * asked[1:])):
         write(folder, name, [f"p aux sp p2p {len(lines)}\n", *lines])
-    for word in ("yes", "no"):
-        took = {}
-        for name in ("one", "all"):
-            runs = [processor_seconds(program, f"pairs gr {name} --prepare {word} --at-once 1", folder) for _ in range(3)]
-            took[name], reports[word, name] = min(it[2] for it in runs), {it[:2] for it in runs}
-        added[word] = took["all"] - took["one"]
+    for _ in range(5):
+        # A busy machine only adds time.
+        for word, name in itertools.product(("yes", "no"), ("one", "all")):
+            status, out, took = processor_seconds(program, f"pairs gr {name} --prepare {word} --at-once 1", folder)
+            reports.setdefault((word, name), set()).add((status, out))
+            least[word, name] = min(took, least.get((word, name), took))
+        added = {word: least[word, "all"] - least[word, "one"] for word in ("yes", "no")}
+        if added["yes"] <= 1.5 * added["no"]:
+            break
     yield "near pairs on a prepared road: the same report", (len(asked), len(reports["yes", "all"]), reports["yes", "all"] == reports["no", "all"]), (4_001, 1, True)
-    yield "near pairs on a prepared road: about the same time", added["yes"] <= 4 * added["no"] + 0.2 or added, True
+    yield "near pairs on a prepared road: about the same time", added["yes"] <= 1.5 * added["no"] or least, True
 
 
 def numbered_at_random(program, folder):
-    """A grid whose nodes are numbered at random: what is searched on a layout has the bytes of single searches."""
+    """A grid whose nodes are numbered at random, with enough of them for arcs to be placed in parts: it has the arrivals of the grid numbered
+    row by row, and what is searched on a layout has the bytes of single searches."""
     words = random.Random(9)
-    side = 270
+    side = 370
     count = side * side
     numbers = list(range(1, count + 1))
     words.shuffle(numbers)
-    arcs = [(numbers[tail - 1], numbers[head - 1], weight) for tail, head, weight in grid(side, words)]
+    rows = grid(side, words)
     sources = [words.randint(1, count) for _ in range(12)]
-    write(folder, "gr", graph(count, arcs))
+    write(folder, "rows", graph(count, rows))
+    write(folder, "gr", graph(count, [(numbers[tail - 1], numbers[head - 1], weight) for tail, head, weight in rows]))
+    write(folder, "first", ["p aux sp ss 1\n", f"s {sources[0]}\n"])
+    status, out = ran(program, "run rows first", folder)
+    told = dict(line.split()[1:3] for line in out.decode().splitlines() if line.startswith("d"))
+    told = {str(numbers[int(node) - 1]): time for node, time in told.items()}
+    sources = [numbers[node - 1] for node in sources]
     write(folder, "ss", [f"p aux sp ss {len(sources)}\n"] + [f"s {node}\n" for node in sources])
     write(folder, "nodes", ["p aux sp ss 50\n"] + [f"s {node}\n" for node in words.sample(range(1, count + 1), 50)])
     for options in ("", "--walks --nodes nodes"):
@@ -202,6 +214,9 @@ def numbered_at_random(program, folder):
         for node in sources:
             write(folder, "one", [f"p aux sp ss 1\ns {node}\n"])
             single += ran(program, f"run gr one {options}", folder)[1]
+            if node == sources[0] and not options:
+                here = dict(line.split()[1:3] for line in single.decode().splitlines() if line.startswith("d"))
+                yield "numbered at random: the arrivals of the grid in rows", (status, here == told, len(here)), (0, True, count)
         for at_once in (1, 4):
             status, out = ran(program, f"run gr ss {options} --at-once {at_once}", folder)
             yield f"numbered at random, {options} --at-once {at_once}", (status, out == single, len(out) > 1000), (0, True, True)

@@ -6,9 +6,11 @@ import glob
 import os
 import random
 import resource
+import statistics
 import subprocess
 import tempfile
 import time
+from concurrent.futures import ThreadPoolExecutor
 
 import memory
 
@@ -60,6 +62,13 @@ def seconds(program, words, folder):
             raise RuntimeError(f"{words}: {status} {said}")
         least = min(least, took)
     return least
+
+
+def seconds_beside(program, words, folder, count):
+    """The processor time of a run that ends well while others of the same words run, as many as this in all: threads of one core, and all
+    that share memory, make one another slower."""
+    with ThreadPoolExecutor(count) as pool:
+        return statistics.median(pool.map(lambda _: seconds(program, words, folder), range(count)))
 
 
 def grows(name, small, large, most):
@@ -189,19 +198,19 @@ def thread_seconds(program, words, folder, is_slowed=lambda is_first: False):
 
 
 def made_once(program, folder):
-    """Reports made ahead by several threads beside those of one: none is made twice, and no thread waits for what another makes: each
-    makes its share, the one that sends them too."""
+    """Reports made ahead by several threads beside those of as many runs by one: none is made twice, and no thread waits for what another
+    makes: each makes its share, the one that sends them too."""
     write(folder, "many-ahead.ss", ["p aux sp ss 800\n", *[f"s {at}\n" for at in range(1, 801)]])
     write_path(folder, "middle.gr", 20_000)
-    one = seconds(program, "run middle.gr many-ahead.ss --at-once 1", folder)
     for at_once in (2, 4, 16):
+        one = seconds_beside(program, "run middle.gr many-ahead.ss --at-once 1", folder, at_once)
         words = f"run middle.gr many-ahead.ss --at-once {at_once}"
         many = seconds(program, words, folder)
         for _ in range(4):
             # A busy machine only adds time. Reports that are made twice take twice the time in each run.
-            if many > 1.8 * one:
+            if many > 1.7 * one:
                 many = min(many, seconds(program, words, folder))
-        yield grows(f"resources: {words}, all threads beside one", one, many, 1.8)
+        yield grows(f"resources: {words}, all threads beside as many runs", one, many, 1.7)
         if at_once > 4:
             continue  # The share of one of sixteen is too short for the system's clock.
         for _ in range(5):

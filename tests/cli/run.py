@@ -154,7 +154,7 @@ def main():
     results = all_results(sys.argv[1])
     failed = [(name, was) for name, was, want in results if was != want]
     for name, was in failed:
-        print("failed:", name, *was)
+        print("failed:", name, str(was)[:2000])
     print(f"{len(results) - len(failed)} passed, {len(failed)} failed")
     return 1 if failed else 0
 
