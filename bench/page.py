@@ -101,7 +101,7 @@ SAID = {
     "matrix": """## A matrix from Python
 
 64 sources on a grid of 10^6 nodes by four threads into NumPy's memory (`bench/matrix.py`), beside the program's own run into the null
-device; seconds, the middle of five rounds.
+device; seconds, the middle of fifteen rounds.
 """,
     "asked_matrix": """## A matrix of asked nodes from Python
 

@@ -297,7 +297,7 @@ class Road:
         return Answers(self, nodes, when, _threads.rows(self, nodes, when, None, threads), walks, times)
 
     def arrivals(self, sources: Any, departures: Any = None, nodes: Any = None, threads: Optional[int] = None, *, unit: Optional[str] = None,
-                 origin: Any = None, masked: bool = False, as_float: bool = False) -> Any:
+                 origin: Any = None, masked: bool = False, as_float: bool = False, out: Any = None) -> Any:
         """The matrix of earliest arrivals: uint64 with the shape (sources, nodes), NEVER for a node that is not reached within the horizon.
 
         `sources` is a list of nodes, `departures` a list of as many times, or one time for all, 0 if it is not given. The columns are the
@@ -309,10 +309,18 @@ class Road:
         timedelta64 with NaT in place of NEVER. With `origin` too, the moment of time 0, departures may be datetime64, and the result is
         datetime64. `as_float` gives float64 with inf in place of NEVER: seconds if there is a unit, else the road's own times. `masked`
         gives a masked array.
+
+        `out` is an array of uint64 with the result's shape, as `numpy.empty` or `numpy.memmap` make one: the result is written into it, and it
+        is what is returned. Memory that is used again saves the system's time to give new, some six in a hundred, and a file holds a matrix
+        that memory doesn't. Only plain times are written so: `unit`, `masked` and `as_float` beside it are a ValueError. If the call fails,
+        any of it may be written.
         """
         times = Times(unit, origin, masked, as_float)
         starts, when = self._starts(sources, departures, times)
         picks = None if nodes is None else self._list(nodes)
+        if out is not None:
+            _threads.rows(self, starts, when, picks, threads, self._given(out, times, len(starts), self._is_one(sources), picks, nodes))
+            return out
         found = _threads.rows(self, starts, when, picks, threads)
         if nodes is not None and self._is_one(nodes):
             found = found[:, 0] if numpy is not None else array.array("Q", [row[0] for row in found])
@@ -361,12 +369,12 @@ class Road:
         return found[0] if all(ones) else found
 
     def departures(self, targets: Any, arrivals: Any, nodes: Any = None, threads: Optional[int] = None, *, unit: Optional[str] = None,
-                   origin: Any = None, masked: bool = False, as_float: bool = False) -> Any:
+                   origin: Any = None, masked: bool = False, as_float: bool = False, out: Any = None) -> Any:
         """The matrix of latest departures: uint64 with the shape (targets, nodes), NEVER for a node from which no departure is in time.
 
         `targets` is a list of nodes, `arrivals` a list of as many times by which they have to be reached, or one time for all. The columns
         are the nodes of the list `nodes`, or all nodes in the order of their numbers. One node in the place of a list takes its dimension
-        away. Threads and how times are written as in `arrivals`; the first search turns the road round, as for `latest`.
+        away. Threads, `out` and how times are written as in `arrivals`; the first search turns the road round, as for `latest`.
         """
         times = Times(unit, origin, masked, as_float)
         if arrivals is None:
@@ -374,11 +382,24 @@ class Road:
         ends = self._list(targets)
         by = _same(times.departures(arrivals, len(ends), "a time to arrive by"), len(ends), "targets", "times")
         picks = None if nodes is None else self._list(nodes)
+        if out is not None:
+            _threads.rows_until(self, ends, by, picks, threads, self._given(out, times, len(ends), self._is_one(targets), picks, nodes))
+            return out
         found = _threads.rows_until(self, ends, by, picks, threads)
         if nodes is not None and self._is_one(nodes):
             found = found[:, 0] if numpy is not None else array.array("Q", [row[0] for row in found])
         found = times.told(found)
         return found[0] if self._is_one(targets) else found
+
+    def _given(self, out: Any, times: Times, rows: int, is_one: bool, picks: Any, nodes: Any):
+        """The rows of an array that a caller gives for a matrix."""
+        if times.unit or times.masked or times.as_float:
+            raise ValueError("out takes plain times: leave out unit=, masked= and as_float=")
+        columns = self.nodes if picks is None else len(picks)
+        shape = () if is_one else (rows,)
+        if nodes is None or not self._is_one(nodes):
+            shape += (columns,)
+        return _numbers.given_room(out, shape, rows, columns)
 
     @staticmethod
     def _spread(sources, targets, when, ones):

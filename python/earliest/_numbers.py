@@ -95,6 +95,18 @@ def room(shape: Tuple[int, ...]):
     return [array.array("Q", bytes(8 * shape[1])) for _ in range(shape[0])]
 
 
+def given_room(out: Any, shape: Tuple[int, ...], rows: int, columns: int):
+    """The array of a result's shape that a caller gives for its times, as rows and columns over the same memory."""
+    need_numpy("out=")
+    if not isinstance(out, numpy.ndarray) or isinstance(out, numpy.ma.MaskedArray) or out.dtype != numpy.uint64:
+        raise TypeError(f"out has to be an array of uint64, not {getattr(out, 'dtype', None) or type(out).__name__}")
+    if out.shape != shape:
+        raise ValueError(f"out has the shape {out.shape}, and the result {shape}")
+    if not out.flags.carray:
+        raise ValueError("out has to be writeable, aligned and without gaps, in C's order")
+    return out.reshape((rows, columns))
+
+
 def filled(code: str, value: int, count: int):
     """An array with one value in all places."""
     if numpy is not None:

@@ -83,8 +83,8 @@ def are_few(chosen: int, nodes: int) -> bool:
     return chosen <= max(FEW, nodes // PART)
 
 
-def rows(road: Any, sources: Any, departures: Any, picks: Any, threads: Optional[int]):
-    """The arrivals at all nodes, or at those of `picks`, one row for each source."""
+def rows(road: Any, sources: Any, departures: Any, picks: Any, threads: Optional[int], out: Any = None):
+    """The arrivals at all nodes, or at those of `picks`, one row for each source; in the rows of `out`, if it is given."""
     from ._searches import Search
 
     first_node, first_time = _numbers.address(sources), _numbers.address(departures)
@@ -103,25 +103,26 @@ def rows(road: Any, sources: Any, departures: Any, picks: Any, threads: Optional
 
         return fill_few if few else fill
 
-    return _each_row(len(sources), len(picks) if few else road.nodes, None if few else picks, threads, begin)
+    return _each_row(len(sources), len(picks) if few else road.nodes, None if few else picks, threads, begin, out)
 
 
-def rows_until(road: Any, targets: Any, times: Any, picks: Any, threads: Optional[int]):
-    """The latest departures of all nodes, or of those of `picks`, one row for each target."""
+def rows_until(road: Any, targets: Any, times: Any, picks: Any, threads: Optional[int], out: Any = None):
+    """The latest departures of all nodes, or of those of `picks`, one row for each target; in the rows of `out`, if it is given."""
     from ._searches import LatestSearch
 
     def begin():
         search = LatestSearch(road)
         return lambda row, into: search.until(int(targets[row]), int(times[row]), into)
 
-    return _each_row(len(targets), road.nodes, picks, threads, begin)
+    return _each_row(len(targets), road.nodes, picks, threads, begin, out)
 
 
-def _each_row(count, nodes, picks, threads, begin):
-    """A row of times for each problem. `begin` is called in each thread, and what it returns for each row that the thread takes, with the
-    array that it fills for all nodes."""
+def _each_row(count, nodes, picks, threads, begin, out):
+    """A row of times for each problem, in `out` if it isn't None. `begin` is called in each thread, and what it returns for each row that the
+    thread takes, with the array that it fills for all nodes."""
     counted(threads, 1)
-    out = _numbers.room((count, nodes if picks is None else len(picks)))
+    if out is None:
+        out = _numbers.room((count, nodes if picks is None else len(picks)))
     places = None if picks is None else (picks.astype(numpy.intp) - 1 if numpy is not None else [node - 1 for node in picks])
 
     def worker():

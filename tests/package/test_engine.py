@@ -7,6 +7,7 @@ import pickle
 import random
 import subprocess
 import sys
+import tempfile
 import unittest
 from time import process_time
 
@@ -315,6 +316,51 @@ class Answers(Case):
             self.assertEqual(flat(road.arrivals(sources, departures, nodes=17)), [row[16] for row in want])
         self.assertEqual(len(road.arrivals([])), 0)
         self.assertEqual(len(road.pairs([], [], [])), 0)
+
+    @needs("numpy")
+    def test_a_matrix_into_an_array_that_is_given(self):
+        net = self.networks[0]
+        road = earliest.Road(net.gr(), net.tp())
+        sources, departures, by = [1, 5, 9, 5], [0, 33, 120, 260], [300, 220, 90, 260]
+        many = [40, 2, 2, 17] * 4 + [1]
+        with tempfile.TemporaryDirectory() as folder:
+            for nodes in (None, [40, 2, 2, 17], many, [], 17):
+                for one in (False, True):
+                    for call, times in ((road.arrivals, departures), (road.departures, by)):
+                        starts, when = (sources[1], times[1]) if one else (sources, times)
+                        want = call(starts, when, nodes=nodes, threads=2)
+                        shape = numpy.shape(want)
+                        whole = numpy.full((3, *shape), 77, dtype=numpy.uint64)
+                        for out in (whole[1, ...], numpy.memmap(os.path.join(folder, "out"), dtype=numpy.uint64, mode="w+", shape=shape)) if numpy.size(want) else (whole[1, ...],):
+                            self.assertIs(call(starts, when, nodes=nodes, threads=2, out=out), out)
+                            self.assertTrue(numpy.array_equal(out, want))
+                        # Nothing is written beside it.
+                        self.assertTrue((whole[0] == 77).all() and (whole[2] == 77).all())
+        # Each search's times are its own, whatever was in the memory before, and lists may lie in it.
+        out = numpy.zeros((4, 40), dtype=numpy.uint64)
+        out[0, :4] = departures
+        road.arrivals(sources, out[0, :4], out=out)
+        self.assertTrue(numpy.array_equal(out, road.arrivals(sources, departures)))
+
+    @needs("numpy")
+    def test_arrays_that_are_no_room_for_a_matrix(self):
+        road = earliest.Road(self.networks[0].gr(), self.networks[0].tp())
+        good = numpy.full((2, 40), 77, dtype=numpy.uint64)
+        fixed = good.copy()
+        fixed.flags.writeable = False
+        for call in (lambda **more: road.arrivals([1, 5], 33, **more), lambda **more: road.departures([1, 5], 33, **more)):
+            for out in ([[0] * 40] * 2, good.astype(numpy.int64), good.astype(numpy.float64), good.astype(">u8"), numpy.ma.masked_array(good), array.array("Q", [0] * 80)):
+                with self.assertRaises(TypeError):
+                    call(out=out)
+            for out in (good[:1], good[:, :39], good.reshape(80), good.reshape((1, 2, 40)), numpy.asfortranarray(good), numpy.zeros((2, 80), dtype=numpy.uint64)[:, ::2], fixed):
+                with self.assertRaises(ValueError):
+                    call(out=out)
+            for more in ({"unit": "s"}, {"masked": True}, {"as_float": True}):
+                with self.assertRaises(ValueError):
+                    call(out=good, **more)
+            with self.assertRaises(ValueError):
+                call(nodes=[1, 2], out=good)
+        self.assertTrue((good == 77).all() and (fixed == 77).all())
 
     def test_a_search_used_again(self):
         net = self.networks[2]
