@@ -1,7 +1,6 @@
 """A matrix from Python beside the program's own run: python3 bench/matrix.py [--nodes N] [--sources S] [--threads T] [--rounds R] [--program PATH]
 
-Makes a grid of about N nodes, searches S sources by the package (`road.arrivals`, T threads), into new memory and into an array that is used
-again, and by the program (`run --at-once T` into the null
+Makes a grid of about N nodes, searches S sources by the package (`road.arrivals`, T threads) and by the program (`run --at-once T` into the null
 device), in turns: with all lines, with those of one node more than a 64th, for which it still searches all nodes (`--nodes`), and without sources,
 whose time is that of reading. It prints the median of each in seconds, the package's time beside the searches alone, and whether arrivals differ
 between the two. Run it on a machine that does nothing else.
@@ -53,12 +52,10 @@ def main():
         chosen = written(room, round(asked.nodes**0.5), asked.sources)
         reading, road = took(lambda: earliest.Road.read(os.path.join(room, "net.gr")))
         run = lambda sources, out, *more: subprocess.run([asked.program, "run", "net.gr", sources, "--at-once", str(asked.threads), *more], cwd=room, stdout=out, check=True)
-        kept = road.arrivals(chosen, threads=asked.threads)
-        times = {"package": [], "package, into an array that is used again": [], "program, with reading and writing": [], "program, with reading and few lines": [], "program, reading": []}
+        times = {"package": [], "program, with reading and writing": [], "program, with reading and few lines": [], "program, reading": []}
         for _ in range(asked.rounds):
             seconds, matrix = took(lambda: road.arrivals(chosen, threads=asked.threads))
             times["package"].append(seconds)
-            times["package, into an array that is used again"].append(took(lambda: road.arrivals(chosen, threads=asked.threads, out=kept))[0])
             times["program, with reading and writing"].append(took(lambda: run("many.ss", subprocess.DEVNULL))[0])
             times["program, with reading and few lines"].append(took(lambda: run("many.ss", subprocess.DEVNULL, "--nodes", "nodes.ss"))[0])
             times["program, reading"].append(took(lambda: run("none.ss", subprocess.DEVNULL))[0])
@@ -69,15 +66,13 @@ def main():
         with open(os.path.join(room, "report"), "wb") as out:
             run("few.ss", out)
         told = report.read(os.path.join(room, "report"))
-        same = all(bytes(one) == bytes(other) for one, other in zip(told.arrivals, matrix)) and bytes(matrix) == bytes(kept)
+        same = all(bytes(one) == bytes(other) for one, other in zip(told.arrivals, matrix))
     print(f"{road.nodes} nodes, {road.arcs} arcs, {asked.sources} sources, {asked.threads} threads, rounds: {asked.rounds}")
     print(f"package, reading: {reading:.3f}")
     middle = {name: statistics.median(seconds) for name, seconds in times.items()}
     for name, seconds in middle.items():
         print(f"{name}: {seconds:.3f}")
-    searches = middle["program, with reading and few lines"] - middle["program, reading"]
-    for name in ("package", "package, into an array that is used again"):
-        print(f"{name}, beside the program's searches: {middle[name] / searches:.2f}")
+    print(f"package, beside the program's searches: {middle['package'] / (middle['program, with reading and few lines'] - middle['program, reading']):.2f}")
     if not same:
         sys.exit("the package and the program give different arrivals")
 

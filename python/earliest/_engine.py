@@ -311,8 +311,8 @@ class Road:
         gives a masked array.
 
         `out` is an array of uint64 with the result's shape, as `numpy.empty` or `numpy.memmap` make one: the result is written into it, and it
-        is what is returned. Memory that is used again saves the system's time to give new, some six in a hundred, and a file holds a matrix
-        that memory doesn't. Only plain times are written so: `unit`, `masked` and `as_float` beside it are a ValueError. If the call fails,
+        is what is returned. Memory that is used again saves the system's time to clear new, and a file holds a matrix that memory doesn't.
+        Only plain times are written so: `unit`, `masked` and `as_float` beside it are a ValueError. If the call fails,
         any of it may be written.
         """
         times = Times(unit, origin, masked, as_float)
