@@ -72,7 +72,7 @@ enum earliest_number {
     EARLIEST_LENGTHS_DIFFER = 23, /* lists that belong together have different lengths */
     EARLIEST_ROOM_TOO_SMALL = 24, /* there is another room than the result takes */
     EARLIEST_BUSY = 25,           /* another call is in the search */
-    EARLIEST_NOT_WORTH = 26,      /* the road isn't worth a preparation */
+    EARLIEST_NOT_WORTH = 26,      /* the road isn't worth a preparation or a layout */
     EARLIEST_NO_ORDER = 27,       /* a list is no order of the nodes: one is missing, or there twice */
     EARLIEST_BAD_LINE = 31,       /* a report's line is not what its place asks; 0 where it ends too early */
     EARLIEST_NOT_ATTAINED = 32,   /* a report's time or walk is not attained */
@@ -110,7 +110,7 @@ uint32_t earliest_road_arcs(earliest_road *road);
  * arrivals and walks are the same. It takes seconds and some 200 MB for 10^6 nodes, once for all searches. `prepared`, another handle,
  * holds the same road with its preparation then, for every call that takes a road; it has a share of the road, which may be freed before
  * it, and what it held before is freed. Any number of searches, each on another thread, share the preparation. They begin with
- * earliest_search_new on `prepared`; those made on `road`, and queries to all nodes, don't use it. Turned round (earliest_road_turned), `prepared` is prepared for
+ * earliest_search_new on `prepared`; those made on `road` don't use it. Turned round (earliest_road_turned), `prepared` is prepared for
  * latest departures of pairs. Refusals: EARLIEST_NO_ROAD; EARLIEST_NOT_WORTH if the road has too dense a core for searches to gain, as a
  * large grid has; 13; `prepared` is as it was then. */
 uint32_t earliest_road_prepared(earliest_road *road, earliest_road *prepared);
@@ -122,6 +122,12 @@ uint32_t earliest_road_prepared_by(earliest_road *road, const uint32_t *order, s
  * timetables on the same arcs are prepared in a fraction of the time. Refusals besides: EARLIEST_NO_ORDER if `like` isn't prepared or has
  * another number of nodes. */
 uint32_t earliest_road_prepared_like(earliest_road *road, earliest_road *like, earliest_road *prepared);
+/* Lays a road out: its network once more, under numbers by which neighbours are near, for searches to all nodes in roads of at least 65,536
+ * nodes whose arcs lead far away in the road's own numbers. They take a fraction of the time, and arrivals and walks are the same; it takes
+ * as long as some of them, and some 30 bytes for each arc. `laid`, another handle, holds the same road with its layout then, as with
+ * earliest_road_prepared; a prepared road has such a layout already. Refusals: EARLIEST_NO_ROAD; EARLIEST_NOT_WORTH if searches aren't
+ * likely to gain; 13; `laid` is as it was then. */
+uint32_t earliest_road_laid_out(earliest_road *road, earliest_road *laid);
 /* Lets a road go; `road` is EARLIEST_NOTHING then. Searches on it keep their shares and go on. */
 void earliest_road_free(earliest_road *road);
 
@@ -139,7 +145,7 @@ uint32_t earliest_search_pair(earliest_search *search, uint32_t source, uint64_t
  * query. Refusals: EARLIEST_NO_SEARCH, EARLIEST_NO_SUCH_NODE, EARLIEST_NOT_ASKED; `arrival` is as it was then. */
 uint32_t earliest_search_arrival(earliest_search *search, uint32_t node, uint64_t *arrival);
 /* The earliest arrivals at all nodes: `count` is the number of nodes, and place 0 is node 1. Refusals: EARLIEST_NO_SEARCH,
- * EARLIEST_ROOM_TOO_SMALL where `count` is another, EARLIEST_NOT_ASKED after a query for one target; `out` is as it was then. */
+ * EARLIEST_ROOM_TOO_SMALL where `count` is another, EARLIEST_NOT_ASKED after a query for one of several nodes; `out` is as it was then. */
 uint32_t earliest_search_arrivals(earliest_search *search, uint64_t *out, size_t count);
 /* The canonical walk to a node: the numbers of its arcs, first arc first, at the head of `out`, and how many they are in `count`. A
  * source at its own departure has the empty walk. Refusals: EARLIEST_ROOM_TOO_SMALL, where `count` tells how much room it takes;
@@ -159,8 +165,8 @@ uint32_t earliest_search_answers(earliest_search *search, uint64_t *out, size_t 
 void earliest_search_free(earliest_search *search);
 
 /* Turns a road round, for searches for latest departures, which share it; it takes as much memory as the road's network once more. `turned`
- * holds it then, with a share of the road, and what it held before is let go; earliest_road_free lets it go. A prepared road is prepared
- * turned round, too, over the same order: that takes about as long as earliest_road_prepared_like. Refusals: EARLIEST_NO_ROAD, 13. */
+ * holds it then, with a share of the road, and what it held before is let go; earliest_road_free lets it go. A road that is laid out or
+ * prepared is so turned round, too, over the same order: a preparation takes about as long as by earliest_road_prepared_like. Refusals: EARLIEST_NO_ROAD, 13. */
 uint32_t earliest_road_turned(earliest_road *road, earliest_road *turned);
 /* Makes a search for latest departures on a road turned round; else like earliest_search_new. The calls of this part take such a search,
  * and those above a search made by earliest_search_new: each refuses the other sort (EARLIEST_NO_SEARCH). Both are let go by
@@ -285,7 +291,7 @@ static inline const char *earliest_message(uint32_t number) {
     case EARLIEST_LENGTHS_DIFFER: return "lists that belong together have different lengths (23 LengthsDiffer)";
     case EARLIEST_ROOM_TOO_SMALL: return "the room is not that of the result (24 RoomTooSmall)";
     case EARLIEST_BUSY: return "another call is in the search (25 Busy)";
-    case EARLIEST_NOT_WORTH: return "the road is not worth a preparation (26 NotWorth)";
+    case EARLIEST_NOT_WORTH: return "the road is not worth a preparation or a layout (26 NotWorth)";
     case EARLIEST_NO_ORDER: return "the list is no order of the nodes (27 NoOrder)";
     case EARLIEST_BAD_LINE: return "a line is not what its place asks (31 BadLine)";
     case EARLIEST_NOT_ATTAINED: return "a line is not attained (32 NotAttained)";

@@ -38,7 +38,8 @@ class Core:
         self.nodes: int = library().earliest_road_nodes(self.handle)
         self.arcs: int = library().earliest_road_arcs(self.handle)
         self.found_ends: Any = None
-        self.closed = self.prepared = False
+        self.closed = self.prepared = self.laid_out = False
+        self.may_lay_out = True
         _all.add(self)
 
     def ends(self) -> Tuple[Any, Any]:
@@ -75,7 +76,7 @@ class Core:
                 test(library().earliest_road_prepared(self.handle, prepared))
             else:
                 test(library().earliest_road_prepared_by(self.handle, _numbers.address(order), len(order), prepared))
-            self._put(prepared)
+            self._put_prepared(prepared)
 
     def prepare_like(self, other: "Core") -> None:
         """Puts a preparation beside the road, over the order of another prepared road with as many nodes."""
@@ -85,12 +86,31 @@ class Core:
         with first.lock, second.lock:
             prepared = Handle()
             test(library().earliest_road_prepared_like(self.handle, other.handle, prepared))
-            self._put(prepared)
+            self._put_prepared(prepared)
 
-    def _put(self, prepared: Handle) -> None:
-        # The road that was turned round goes, too: what is turned next is the prepared one.
+    def lay_out(self) -> int:
+        """Puts a layout beside the road for the searches that are made from now on; a prepared road has one. Returns the library's number: 26 if
+        a layout isn't likely to pay, and then it isn't asked again."""
+        with self.lock:
+            if (self.prepared or self.laid_out) and not self.closed:
+                return 0
+            laid = Handle()
+            number = library().earliest_road_laid_out(self.handle, laid)
+            if number == 0:
+                self._put(laid)
+                self.laid_out = True
+            elif number == 26:
+                self.may_lay_out = False
+            return number
+
+    def _put_prepared(self, prepared: Handle) -> None:
+        self._put(prepared)
+        self.prepared, self.laid_out = True, False
+
+    def _put(self, handle: Handle) -> None:
+        # The road that was turned round goes, too: what is turned next is this one.
         self._free()
-        self.handle, self.turned, self.prepared = prepared, Handle(), True
+        self.handle, self.turned = handle, Handle()
 
     def close(self):
         with self.lock:

@@ -32,7 +32,7 @@ MEANINGS = {
     23: "lists that belong together have different lengths",
     24: "the room is not that of the result",
     25: "another thread is in a call with this search",
-    26: "the road is not worth a preparation",
+    26: "the road is not worth a preparation or a layout",
     27: "the list is no order of the nodes: one is missing, or there twice",
     31: "a line is not what its place asks",
     32: "a line is not attained",

@@ -30,6 +30,7 @@ CALLS = (
     ("road_nodes", _number, [_handle]),
     ("road_arcs", _number, [_handle]),
     ("road_free", None, [_handle]),
+    ("road_laid_out", _number, [_handle, _handle]),
     ("road_prepared", _number, [_handle, _handle]),
     ("road_prepared_by", _number, [_handle, ctypes.c_void_p, _size, _handle]),
     ("road_prepared_like", _number, [_handle, _handle, _handle]),

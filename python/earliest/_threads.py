@@ -19,6 +19,10 @@ FEW, PART = 16, 64
 """Up to `FEW` nodes, or one in `PART` of the road's, are asked for by searches that end when they are settled; as in `earliest run --nodes`."""
 
 
+LAID_OUT = 6
+"""From this many rows for each thread on a road is laid out first, if it is large and numbered out of order: a layout takes as long as some rows."""
+
+
 def processors() -> int:
     """How many processors this process may use."""
     if hasattr(os, "sched_getaffinity"):
@@ -83,12 +87,22 @@ def are_few(chosen: int, nodes: int) -> bool:
     return chosen <= max(FEW, nodes // PART)
 
 
+def _lay_out(road: Any, parts: int, threads: Optional[int]) -> None:
+    """Lays a road out if there are many rows. Without memory for it the rows are searched as they are."""
+    if road._core.may_lay_out and parts >= LAID_OUT * counted(threads, parts):
+        number = road._core.lay_out()
+        if number not in (13, 26):
+            test(number)
+
+
 def rows(road: Any, sources: Any, departures: Any, picks: Any, threads: Optional[int], out: Any = None):
     """The arrivals at all nodes, or at those of `picks`, one row for each source; in the rows of `out`, if it is given."""
     from ._searches import Search
 
     first_node, first_time = _numbers.address(sources), _numbers.address(departures)
     few = picks is not None and are_few(len(picks), road.nodes)
+    if not few:
+        _lay_out(road, len(sources), threads)
 
     def begin():
         search, calls = Search(road, False), library()
@@ -109,6 +123,8 @@ def rows(road: Any, sources: Any, departures: Any, picks: Any, threads: Optional
 def rows_until(road: Any, targets: Any, times: Any, picks: Any, threads: Optional[int], out: Any = None):
     """The latest departures of all nodes, or of those of `picks`, one row for each target; in the rows of `out`, if it is given."""
     from ._searches import LatestSearch
+
+    _lay_out(road, len(targets), threads)
 
     def begin():
         search = LatestSearch(road)

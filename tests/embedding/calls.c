@@ -432,6 +432,67 @@ static int long_path(uint32_t arcs) {
 /* A road and the same road prepared: a square of streets of which each has a class by chance, with timetables. The pairs of
  * the prepared one have the arrivals and walks of the other, and all other calls are the same. */
 enum { SIDE = 40 };
+/* A large grid whose nodes are numbered at random, with timetables, and the same laid out: all arrivals, walks and latest departures are alike. A
+ * grid in order isn't laid out, nor a road that isn't there. */
+static int laid_out(void) {
+    static const char tp[] = "p tp 2 0\nk 1 every 60 7\nk 2 speeds 86400 3\nv 0 1000\nv 24000 250\nv 36000 1000\n";
+    enum { WIDE = 260, NODES = WIDE * WIDE };
+    static uint32_t numbers[NODES], tails[4 * NODES], heads[4 * NODES], weights[4 * NODES], classes[4 * NODES], walks[2][NODES];
+    static uint64_t arrivals[2][NODES];
+    static const int32_t steps[4] = {1, -1, WIDE, -WIDE};
+    earliest_road roads[2] = {EARLIEST_NOTHING, EARLIEST_NOTHING}, empty = EARLIEST_NOTHING, turned = EARLIEST_NOTHING;
+    earliest_search searches[2] = {EARLIEST_NOTHING, EARLIEST_NOTHING};
+    earliest_fault fault;
+    for (uint32_t at = 0; at < NODES; at++) numbers[at] = at + 1;
+    for (int is_shuffled = 0; is_shuffled < 2; is_shuffled++) {
+        uint32_t arcs = 0;
+        for (uint32_t at = 0; at < NODES; at++)
+            for (int step = 0; step < 4; step++) {
+                if ((step == 0 && at % WIDE == WIDE - 1) || (step == 1 && at % WIDE == 0) || at + steps[step] >= NODES || word() % 8 == 0) continue;
+                tails[arcs] = numbers[at], heads[arcs] = numbers[at + steps[step]], weights[arcs] = word() % 30, classes[arcs++] = word() % 3;
+            }
+        TEST(earliest_road_of_arcs(NODES, tails, heads, weights, classes, arcs, tp, sizeof tp - 1, &roads[0], &fault) == 0);
+        if (is_shuffled) break;
+        TEST(earliest_road_laid_out(&roads[0], &roads[1]) == EARLIEST_NOT_WORTH && roads[1].at == NULL);
+        for (uint32_t at = 0; at < NODES; at++) {
+            uint32_t other = word() % NODES, number = numbers[at];
+            numbers[at] = numbers[other], numbers[other] = number;
+        }
+    }
+    TEST(earliest_road_laid_out(&empty, &roads[1]) == EARLIEST_NO_ROAD && roads[1].at == NULL);
+    TEST(earliest_road_laid_out(&roads[0], &roads[1]) == 0 && earliest_road_nodes(&roads[1]) == NODES && earliest_road_arcs(&roads[1]) == earliest_road_arcs(&roads[0]));
+    TEST(earliest_road_laid_out(&empty, &roads[1]) == EARLIEST_NO_ROAD && earliest_road_nodes(&roads[1]) == NODES);
+    /* A layout is no preparation, whose order another road could take. */
+    TEST(earliest_road_prepared_like(&roads[0], &roads[1], &empty) == EARLIEST_NO_ORDER && empty.at == NULL);
+    for (int round = 0; round < 3; round++) {
+        uint32_t sources[2] = {1 + word() % NODES, 1 + word() % NODES}, from = 1 + word() % NODES, reached = 0;
+        uint64_t starts[2] = {25000, 25100 + word() % 900}, counts[2] = {0, 0}, times[2] = {0, 1};
+        for (int i = 0; i < 2; i++) {
+            TEST(earliest_search_new(&roads[i], round != 1, &searches[i]) == 0 && earliest_search_from(&searches[i], sources, 2, starts, 2) == 0);
+            TEST(earliest_search_arrivals(&searches[i], arrivals[i], NODES) == 0);
+        }
+        TEST(memcmp(arrivals[0], arrivals[1], sizeof arrivals[0]) == 0);
+        for (uint32_t node = 1; node <= NODES; node += 997) {
+            uint32_t said[2];
+            for (int i = 0; i < 2; i++) said[i] = earliest_search_walk(&searches[i], node, walks[i], NODES, &counts[i]);
+            TEST(said[0] == said[1] && (round == 1 ? said[0] == EARLIEST_NO_WALKS : counts[0] == counts[1]));
+            if (said[0] == 0) TEST(memcmp(walks[0], walks[1], counts[0] * sizeof **walks) == 0 && ++reached);
+        }
+        TEST(round == 1 || reached > 50);
+        for (int i = 0; i < 2; i++)
+            TEST(earliest_search_pair(&searches[i], sources[0], starts[0], from) == 0 && earliest_search_arrival(&searches[i], from, &times[i]) == 0);
+        TEST(times[0] == times[1]);
+        for (int i = 0; i < 2; i++) {
+            TEST(earliest_road_turned(&roads[i], &turned) == 0 && earliest_search_new_until(&turned, 0, &searches[i]) == 0);
+            TEST(earliest_search_until(&searches[i], &from, 1, &starts[1], 1) == 0 && earliest_search_departures(&searches[i], arrivals[i], NODES) == 0);
+        }
+        TEST(memcmp(arrivals[0], arrivals[1], sizeof arrivals[0]) == 0);
+    }
+    for (int i = 0; i < 2; i++) earliest_road_free(&roads[i]), earliest_search_free(&searches[i]);
+    earliest_road_free(&turned);
+    return 0;
+}
+
 /* Prepares a road over the order of one that is prepared; a road that isn't, or has other nodes, is refused, and the handles are as they were. */
 static int prepared_like(earliest_road *road, earliest_road *led) {
     earliest_road empty = EARLIEST_NOTHING, small = EARLIEST_NOTHING, made = EARLIEST_NOTHING;
@@ -527,7 +588,7 @@ int main(int count, char **words) {
     if (count != 4 && count != 5) return 2;
     size_t four_length, gr_length, tp_length;
     char *four = text_of(words[1], &four_length), *gr = text_of(words[2], &gr_length), *tp = text_of(words[3], &tp_length);
-    int failed = four_nodes(four, four_length) || asking(four, four_length) || latest(four, four_length) || of_lists() || no_lists() || many(gr, gr_length, tp, tp_length) || prepared() || long_path(count == 5 ? strtoul(words[4], NULL, 10) : 1000);
+    int failed = four_nodes(four, four_length) || asking(four, four_length) || latest(four, four_length) || of_lists() || no_lists() || many(gr, gr_length, tp, tp_length) || prepared() || laid_out() || long_path(count == 5 ? strtoul(words[4], NULL, 10) : 1000);
     free(four), free(gr), free(tp);
     return failed;
 }

@@ -43,6 +43,11 @@ int main() {
     } catch (const earliest::failure &refused) {
         TEST(refused.number() == EARLIEST_NO_ORDER);
     }
+    std::vector<std::uint32_t> from, to, lengths;
+    for (std::uint32_t node = 0; node < 70001; node++)
+        for (std::uint32_t step : {1u, 40503u}) from.push_back(node + 1), to.push_back((node * std::uint64_t{40503} + step) % 70001 + 1), lengths.push_back(node % 9 + step % 4);
+    earliest::road scattered = earliest::road::of_arcs(70001, from, to, lengths);
+    TEST(earliest::search(scattered.laid_out(), false).from({{5, 3}}).arrivals() == earliest::search(scattered, false).from({{5, 3}}).arrivals());
     earliest::road moved = std::move(led);
     TEST(earliest::search(moved, false).to({1, 3}, 4) == std::optional<std::uint64_t>(9));
     try {

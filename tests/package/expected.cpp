@@ -29,6 +29,8 @@ int main() {
     auto led = earliest::search::on(*prepared);
     TEST(led && *led->to({1, 0}, 4) == std::optional<std::uint64_t>(6) && **led->walk(4) == (std::vector<std::uint32_t>{2, 3, 4}));
 
+    TEST(road->laid_out().error().number == EARLIEST_NOT_WORTH);
+
     auto ill = earliest::road::read("p sp 2 1\na 1 3 1\n");
     TEST(!ill && ill.error() == (earliest::error{EARLIEST_OUT_OF_RANGE, 2, 1}) && ill.error().message() == "gr 2: a number is out of its range (6 OutOfRange)");
     TEST(earliest::road::of_arcs(2, {1}, {2, 2}, {1}).error().number == EARLIEST_LENGTHS_DIFFER);
@@ -39,7 +41,7 @@ int main() {
 
     auto moved = std::move(*road);
     TEST(*moved.nodes() == 4 && road->nodes().error().number == EARLIEST_NO_ROAD && earliest::search::on(*road).error().number == EARLIEST_NO_ROAD);
-    TEST(road->prepared().error().number == EARLIEST_NO_ROAD);
+    TEST(road->prepared().error().number == EARLIEST_NO_ROAD && road->laid_out().error().number == EARLIEST_NO_ROAD);
     auto other = std::move(*search);
     TEST(other.from({{1, 0}}) && search->arrivals().error().number == EARLIEST_NO_SEARCH && search->walk(1).error().number == EARLIEST_NO_SEARCH);
     return failed;

@@ -130,6 +130,13 @@ def grid(side, seed=1, part=1.0):
     return side * side, tails, heads, weights
 
 
+def shuffled(nodes, tails, heads, weights, seed=1):
+    """The same lists with the nodes numbered at random."""
+    numbers = list(range(1, nodes + 1))
+    random.Random(seed).shuffle(numbers)
+    return nodes, [numbers[it - 1] for it in tails], [numbers[it - 1] for it in heads], weights
+
+
 def peak():
     """The most memory that this process has had so far, in KB. (The figure of getrusage begins with the parent's.)"""
     with open("/proc/self/status", encoding="ascii") as file:

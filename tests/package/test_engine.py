@@ -263,6 +263,58 @@ class Answers(Case):
             self.assertEqual(found[0], found[1])
             self.assertLess(2 * took[1], took[0])
 
+    def test_a_road_that_is_laid_out(self):
+        nodes, tails, heads, weights = plain.shuffled(*plain.grid(260, part=0.8))
+        classes = [number % 3 for number in range(len(tails))]
+        made = lambda: earliest.Road.of_arcs(nodes, tails, heads, weights, classes, b"p tp 2 0\nk 1 every 60 7\nk 2 rush 500 900 40\n")
+        plain_one, laid = made().lay_out(wanted=False), made()
+        # What was turned round before isn't laid out, and has to go; a search from before is as it was.
+        before, by = laid.searcher(), [int(laid.latest(1, 2, 10**6)), int(plain_one.latest(1, 2, 10**6))]
+        self.assertEqual(by[0], by[1])
+        self.assertEqual((laid.lay_out() is laid, laid.laid_out, plain_one.laid_out, copy.copy(laid).laid_out, laid.prepared), (True, True, False, True, False))
+        for call in (lambda road: road.arrivals([5, 77, nodes], [0, 480, 10**9]),
+                     lambda road: [road.search([5, 77], [30, 0], joint=True).arrivals],
+                     lambda road: road.departures([3, 70], [10**6, 700]),
+                     lambda road: [road.pairs([1, 2, 3], [9, 8, 7], 450), road.latest([1, 2, 3], [9, 8, 7], 10**5)]):
+            self.assertEqual([flat(row) for row in call(laid)], [flat(row) for row in call(plain_one)])
+        walks = [road.search(9, 480, walks=True) for road in (laid, plain_one)]
+        for target in range(1, nodes, 4999):
+            self.assertEqual(*(None if it.walk(target) is None else flat(it.walk(target)) for it in walks))
+        self.assertEqual(flat(before.find(5, 0).arrivals), flat(laid.arrivals([5])[0]))
+        self.assertEqual((laid.prepare().prepared, laid.laid_out), (True, False))
+        self.assertEqual(flat(laid.lay_out().arrivals([77], 480)[0]), flat(plain_one.arrivals([77], 480)[0]))
+        self.assertEqual((laid.prepared, pickle.loads(pickle.dumps(laid)).laid_out), (True, False))
+        laid.close()
+        self.refused(16, laid.lay_out)
+
+    def test_when_a_road_is_laid_out(self):
+        lists = plain.shuffled(*plain.grid(260))
+        for rows, threads, is_laid in ((11, 2, False), (12, 2, True), (5, 1, False), (6, 1, True)):
+            for call in (lambda road: road.arrivals(list(range(1, rows + 1)), threads=threads), lambda road: road.departures([1] * rows, 99, threads=threads)):
+                road = earliest.Road.of_arcs(*lists)
+                call(road)
+                self.assertEqual(road.laid_out, is_laid, (rows, threads))
+        # Few nodes need no layout, and neither do small roads, those in order, and those that are not to have one.
+        road = earliest.Road.of_arcs(*lists)
+        road.arrivals(list(range(1, 13)), nodes=[5, 6], threads=1)
+        others = [earliest.Road.of_arcs(*lists).lay_out(wanted=False), earliest.Road.of_arcs(*plain.grid(260)), earliest.Road.of_arcs(*plain.shuffled(*plain.grid(250)))]
+        for other in others:
+            other.arrivals(list(range(1, 13)), threads=1)
+        for other in others[1:]:
+            other.lay_out()
+        self.assertEqual([it.laid_out for it in (road, *others)], [False] * 4)
+
+    def test_searches_on_a_layout_take_less_time(self):
+        lists = plain.shuffled(*plain.grid(500))
+        roads = [earliest.Road.of_arcs(*lists).lay_out(wanted=it) for it in (False, True)]
+        took = [[], []]
+        for _ in range(5):
+            for times, road in zip(took, roads):
+                begun = process_time()
+                road.arrivals([3, 4], threads=1)
+                times.append(process_time() - begun)
+        self.assertLess(min(took[1]), 0.85 * min(took[0]), took)
+
     def test_a_road_that_is_not_worth_a_preparation(self):
         net = plain.network(3, 4000, 16000, ())
         road = earliest.Road(net.gr())

@@ -166,7 +166,8 @@ class OneRoad(Case):
     def test_the_lock_of_a_road(self):
         """No search is made, and nothing is checked or freed, while another thread is in a call with the road."""
         road = earliest.Road(plain.FOUR)
-        for call in (road.searcher, lambda: road.search(1), lambda: road.arrivals([1]), lambda: road.pairs([1], [2]), lambda: road.check([], b""), road.close):
+        for call in (road.searcher, lambda: road.search(1), lambda: road.arrivals([1]), lambda: road.pairs([1], [2]), lambda: road.check([], b""),
+                     lambda: road.latest(1, 4, 9), lambda: road.departures([4], 9), lambda: road.prepare([1, 2, 3, 4]), road.lay_out, road.close):
             done = threading.Event()
             with road._core.lock:
                 other = threading.Thread(target=lambda: (call(), done.set()))

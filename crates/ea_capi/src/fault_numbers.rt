@@ -31,7 +31,7 @@ pub const LENGTHS_DIFFER: u32 = 23;
 /// There is no room for the result.
 pub const ROOM_TOO_SMALL: u32 = 24;
 // 25 is the header's: it refuses a second call in a search before the library is called.
-/// The road isn't worth a preparation.
+/// The road isn't worth a preparation or a layout.
 pub const NOT_WORTH: u32 = 26;
 /// The list is no order of the nodes.
 pub const NO_ORDER: u32 = 27;

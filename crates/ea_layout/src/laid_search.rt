@@ -267,8 +267,32 @@ impl LaidSearch {
         }
     }
 
+    /// Answers a query for all nodes, or for a target from several sources, with its canonical walks if there is room for walks: for all nodes on
+    /// the layout if that is likely to be faster, else on the network as it is.
+    fn find_all<T: TravelTimes>(
+        self,
+        alloc: Global,
+        network: &Network,
+        layout: &Layout,
+        times: &T,
+        query: &Query,
+    ) -> LaidSearch
+        requires { CanFindLaid network.now (T.answers times.now) layout.now (T.classes times.now)
+            query.now self }
+        ensures { HasFound network.now (T.answers times.now) query.now self result }
+    {
+        if !layout.is_for_all || query.target().is_some() {
+            return self.find_unlaid(network, times, query);
+        }
+        match laid_query(alloc, &layout.places, query) {
+            Ok(laid) => self.find_laid(alloc, network, layout, times, query, &laid),
+            Err(_) => self.find_unlaid(network, times, query),
+        }
+    }
+
     /// Answers a query, with its canonical walks if there is room for walks: that of a pair on the layout, led by its preparation if it has
-    /// one, and others on the network as it is, which saves writing an answer once over. The search is consumed and returned with its answer.
+    /// one; one for all nodes there if that is likely to be faster; and others on the network as it is. The search is consumed and returned
+    /// with its answer.
     pub fn find<T: TravelTimes>(
         self,
         alloc: Global,
@@ -283,7 +307,7 @@ impl LaidSearch {
     {
         match laid_pair(&layout.places, query) {
             Some(laid) => self.find_laid(alloc, network, layout, times, query, &laid),
-            None => self.find_unlaid(network, times, query),
+            None => self.find_all(alloc, network, layout, times, query),
         }
     }
 

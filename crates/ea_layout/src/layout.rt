@@ -34,6 +34,8 @@ pub struct Layout {
     pub nodes: Vec<u32>,
     /// The network under the new numbers.
     pub network: Network,
+    /// Whether searches for all nodes are likely to be faster on it.
+    pub is_for_all: bool,
     /// Its preparation for pairs, if it has one.
     pub prepared: Option<Prepared>,
 }
@@ -104,6 +106,16 @@ impl Layout {
         Layout::by(alloc, network, order)
     }
 
+    /// A network in an order that is given: the nodes of a list, each once, and then those that aren't in it. The order of another layout of
+    /// as many nodes is its `nodes`. An error comes only if memory was refused.
+    pub fn over(alloc: Global, network: &Network, list: &[u32]) -> Result<Layout, AllocError>
+        ensures laid_out { IfOk result (λ layout. LaysOut network.now layout) }
+        ensures none { IfOk result (λ layout. layout.prepared ≡ None) }
+    {
+        let order = in_order(alloc, network, list)?;
+        Layout::by(alloc, network, order)
+    }
+
     /// A network in an order of elimination, prepared for pairs: the upward arcs of a node, its arcs and its neighbours lie near to one
     /// another. `NotWorth` comes if there are too many upward arcs or triangles for the network's size, `OutOfMemory` if memory was refused.
     pub fn prepare<T: TravelTimes>(
@@ -167,12 +179,14 @@ impl Layout {
             places,
             nodes,
             network,
+            is_for_all,
             ..
         } = laid;
         Ok(Layout {
             places,
             nodes,
             network,
+            is_for_all,
             prepared: Some(prepared),
         })
     }
@@ -184,6 +198,7 @@ impl Layout {
         ensures laid_out { IfOk result (λ layout. LaysOut network.now layout) }
         ensures none { IfOk result (λ layout. layout.prepared ≡ None) }
     {
+        let is_for_all = Layout::pays(network);
         let (places, nodes) = order.into_parts();
         let arcs = renamed_arcs(alloc, &places, network)?;
         let network = Network::new(alloc, network.nodes(), arcs)?;
@@ -191,6 +206,7 @@ impl Layout {
             places,
             nodes,
             network,
+            is_for_all,
             prepared: None,
         })
     }

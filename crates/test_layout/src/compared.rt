@@ -111,7 +111,9 @@ fn compare_on<T: TravelTimes>(
     let laid = laid.find_arrivals(alloc, network, layout, times, second)?;
     compare_with_plain(alloc, network, times, second, laid.answer(), count)?;
     let laid = laid.find_walks(alloc, network, layout, times, second)?;
-    compare_with_plain(alloc, network, times, second, laid.answer(), count)
+    compare_with_plain(alloc, network, times, second, laid.answer(), count)?;
+    let laid = laid.find(alloc, network, layout, times, first);
+    compare_with_plain(alloc, network, times, first, laid.answer(), count)
 }
 
 /// The same on a layout in depth-first order, and on a prepared one.
@@ -158,6 +160,10 @@ fn compare_arrivals_on<T: TravelTimes>(
     let laid = laid.find_arrivals(alloc, network, layout, times, first)?;
     compare_with_plain(alloc, network, times, first, laid.answer(), count)?;
     let laid = laid.find_arrivals(alloc, network, layout, times, second)?;
+    compare_with_plain(alloc, network, times, second, laid.answer(), count)?;
+    let laid = laid.find(alloc, network, layout, times, first);
+    compare_with_plain(alloc, network, times, first, laid.answer(), count)?;
+    let laid = laid.find(alloc, network, layout, times, second);
     compare_with_plain(alloc, network, times, second, laid.answer(), count)
 }
 

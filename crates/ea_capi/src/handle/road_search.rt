@@ -1,4 +1,4 @@
-//! The arrays of a search on a road, which may have a preparation.
+//! The arrays of a search on a road, which may have a layout.
 ghost use Rattle.std.specs.Prelude.{◌≡◌, IfOk, IfSome};
 ghost use Rattle.ea_capi.specs.Shared.{IsLaidOn};
 ghost use Rattle.ea_paths.specs.Searches.{CanFind, HasFound};
@@ -10,14 +10,14 @@ use ea_travel_times::TravelTimes;
 use std::alloc::{AllocError, Global};
 use std::marker::Model;
 
-/// The arrays of searches on the road as it is, or of those of pairs on its layout, too.
+/// The arrays of searches on the road as it is, or of those on its layout, too.
 #[derive(Drop)]
 pub enum Arrays {
     Plain(Search),
     Laid(LaidSearch),
 }
 
-/// The arrays of searches by one thread on a road, and the last answer. Pairs on a prepared road are searched on its layout.
+/// The arrays of searches by one thread on a road, and the last answer. Questions that a layout serves are searched on it.
 #[derive(Drop)]
 pub struct RoadSearch {
     arrays: Arrays,
@@ -56,7 +56,7 @@ fn laid_room(alloc: Global, nodes: u32, walks: bool) -> Result<LaidSearch, Alloc
     }
 }
 
-/// Answers a query: that of a pair on a layout, if there is one.
+/// Answers a query: on a layout, if there is one and it serves.
 fn find_laid<T: TravelTimes>(
     search: LaidSearch,
     alloc: Global,
@@ -76,17 +76,17 @@ fn find_laid<T: TravelTimes>(
 }
 
 impl RoadSearch {
-    /// Arrays for searches on a road of this number of nodes, with room for walks or without, and for those on a layout if it is prepared.
+    /// Arrays for searches on a road of this number of nodes, with room for walks or without, and for those on a layout if it has one.
     pub fn reserve(
         alloc: Global,
         nodes: u32,
         walks: bool,
-        is_prepared: bool,
+        is_laid: bool,
     ) -> Result<RoadSearch, AllocError>
         ensures nodes { IfOk result (λ search. search.nodes ≡ nodes) }
         ensures walks { IfOk result (λ search. search.walks ≡ walks) }
     {
-        let arrays = if is_prepared {
+        let arrays = if is_laid {
             Arrays::Laid(laid_room(alloc, nodes, walks)?)
         } else {
             Arrays::Plain(room(alloc, nodes, walks)?)
@@ -104,8 +104,8 @@ impl RoadSearch {
         }
     }
 
-    /// Answers a query, with its canonical walks if there is room for walks. The search of a pair is led by the layout's preparation, if
-    /// there is a layout. The search is consumed and returned with its answer.
+    /// Answers a query, with its canonical walks if there is room for walks: on the layout, if there is one and it serves. The search is consumed
+    /// and returned with its answer.
     pub fn find<T: TravelTimes>(
         self,
         alloc: Global,

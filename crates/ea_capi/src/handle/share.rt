@@ -1,4 +1,4 @@
-//! A share of a road, and of its layout if it is prepared.
+//! A share of a road, and of its layout if it has one.
 ghost use Rattle.std.specs.Prelude.{◌≡◌, ◌≤◌, IfOk, IfSome, None, Some, length, option_map};
 ghost use Rattle.std.specs.Arc.{arc_value};
 ghost use Rattle.ea_capi.specs.Shared.{IsLaidFor};
@@ -16,7 +16,7 @@ use std::alloc::{AllocError, Global};
 use std::marker::Model;
 use std::sync::Arc;
 
-/// A share of a road, and of its layout if it is prepared. In contracts it is the road and the layout.
+/// A share of a road, and of its layout if it has one. In contracts it is the road and the layout.
 #[derive(Drop)]
 pub struct Share {
     terrain: Arc<Terrain, Global>,
@@ -42,7 +42,7 @@ impl Model for Share {
 }
 
 impl Share {
-    /// A share of a road without a preparation.
+    /// A share of a road without a layout.
     pub fn of(terrain: Arc<Terrain, Global>) -> Share
         ensures { result ≡ record { road = (arc_value terrain).road; layout = None } }
     {
@@ -102,8 +102,8 @@ impl Share {
         let _ = &self.terrain.road;
     }
 
-    /// Answers a query on the road, with walks if there is room for them. The search of a pair is led by the
-    /// preparation, if there is one.
+    /// Answers a query on the road, with walks if there is room for them: on the layout, if there is one and it
+    /// serves.
     pub fn find(&self, alloc: Global, search: RoadSearch, query: &Query) -> RoadSearch
         requires problem { IsProblem self.now.road.network
             (length self.now.road.times.tables.list.items) query.now }
@@ -114,7 +114,7 @@ impl Share {
         search.find(alloc, &road.network, &road.times, self.layout(), query)
     }
 
-    /// Its layout, if it is prepared.
+    /// Its layout, if it has one.
     pub fn layout(&self) -> Option<&Layout>
         ensures same { option_map (λ it. it.now) result ≡ self.now.layout }
         ensures fits { IfSome result (λ it. IsLaidFor self.now.road it.now) }

@@ -1,4 +1,4 @@
-//! A share of a road turned round, and of the layout of its turned network if it is prepared.
+//! A share of a road turned round, and of the layout of its turned network if it has one.
 ghost use Rattle.std.specs.Prelude.{◌≡◌, IfOk, IfSome, None, Some, length, option_map};
 ghost use Rattle.std.specs.Arc.{arc_value};
 ghost use Rattle.ea_capi.specs.Shared.{IsLaidTurned};
@@ -15,7 +15,7 @@ use std::alloc::{AllocError, Global};
 use std::marker::Model;
 use std::sync::Arc;
 
-/// A share of a road turned round, and of its layout if it is prepared. In contracts it is the turned road and the layout.
+/// A share of a road turned round, and of its layout if it has one. In contracts it is the turned road and the layout.
 #[derive(Drop)]
 pub struct TurnedShare {
     turned: Arc<TurnedRoad, Global>,
@@ -87,7 +87,7 @@ impl TurnedShare {
         &self.turned
     }
 
-    /// The layout of its network, if it is prepared.
+    /// The layout of its network, if it has one.
     pub fn layout(&self) -> Option<&Layout>
         ensures same { option_map (λ it. it.now) result ≡ self.now.layout }
         ensures fits { IfSome result (λ it. IsLaidTurned self.now.turned it.now) }
@@ -98,7 +98,7 @@ impl TurnedShare {
         }
     }
 
-    /// Answers a turned question, with walks if there is room for them. The search of a pair is led by the preparation, if there is one.
+    /// Answers a turned question, with walks if there is room for them: on the layout, if there is one and it serves.
     pub fn find(&self, alloc: Global, search: RoadSearch, query: &Query) -> RoadSearch
         requires problem { IsProblem self.now.turned.network
             (length (arc_value self.now.turned.terrain).road.times.tables.list.items) query.now }

@@ -1,5 +1,5 @@
 //! Roads with a preparation for searches of pairs.
-ghost use Rattle.std.specs.Prelude.{◌≡◌, ◌≢◌, IfErr, IfOk, MatchOption, Some};
+ghost use Rattle.std.specs.Prelude.{◌≡◌, ◌≢◌, IfErr, IfOk, IsTrue, MatchOption, Some, is_some};
 ghost use Rattle.std.specs.Arc.{arc_value};
 ghost use Rattle.ea_hierarchy.specs.Orders.{IsOrder};
 ghost use Rattle.ea_hierarchy.specs.declared.unprepared.Unprepared.TheVariants.{NoOrder};
@@ -10,8 +10,8 @@ ghost use Rattle.ea_capi.specs.States.{road_in};
 use crate::fault_numbers::{DONE, NO_ORDER, NO_ROAD, NOT_WORTH, OUT_OF_MEMORY};
 use crate::handle::content::Content;
 use crate::handle::handle::Handle;
-use crate::handle::share::Share;
 use crate::handle::terrain::Terrain;
+use crate::road::laid_out::boxed;
 use ea_hierarchy::Unprepared;
 use ea_layout::Layout;
 use std::alloc::{AllocError, Global};
@@ -28,22 +28,10 @@ fn number_of(why: Unprepared) -> u32
     }
 }
 
-/// A road with its layout, in a new box.
-fn boxed(
-    alloc: Global,
-    terrain: Arc<Terrain, Global>,
-    layout: Layout,
-) -> Result<Box<Content, Global>, AllocError>
-    requires { IsLaidFor (arc_value terrain).road layout }
-    ensures { IfOk result (λ it. IsRoadPrepared (arc_value terrain).road (Some it.value)) }
-{
-    let layout = Arc::new(alloc, layout)?;
-    Ok(Box::new(alloc, Content::Road(Share::with(terrain, layout)))?)
-}
-
 /// A prepared layout of a road.
 fn layout_of(alloc: Global, terrain: &Terrain) -> Result<Layout, Unprepared>
     ensures laid { IfOk result (IsLaidFor terrain.now.road) }
+    ensures is_there { IfOk result (λ layout. IsTrue (is_some layout.prepared)) }
     ensures refused { IfErr result (λ why. why ≡ NoOrder → ⊥) }
 {
     Layout::prepare(alloc, &terrain.road.network, &terrain.road.times)
@@ -52,6 +40,7 @@ fn layout_of(alloc: Global, terrain: &Terrain) -> Result<Layout, Unprepared>
 /// A prepared layout of a road over an order of its nodes.
 fn layout_by(alloc: Global, terrain: &Terrain, order: &[u32]) -> Result<Layout, Unprepared>
     ensures laid { IfOk result (IsLaidFor terrain.now.road) }
+    ensures is_there { IfOk result (λ layout. IsTrue (is_some layout.prepared)) }
     ensures order { IfOk result (λ layout. IsOrder terrain.now.road.network.nodes order.now) }
     ensures refused { IfErr result (λ why. why ≡ NoOrder
         → IsOrder terrain.now.road.network.nodes order.now → ⊥) }
@@ -68,7 +57,6 @@ fn prepared_road(
     ensures refused { IfErr result (λ why. why ≡ NoOrder → ⊥) }
 {
     let layout = layout_of(alloc, terrain)?;
-    let terrain = Arc::try_clone(terrain)?;
     Ok(boxed(alloc, terrain, layout)?)
 }
 
@@ -84,7 +72,6 @@ fn road_by_order(
         → IsOrder (arc_value terrain.now).road.network.nodes order.now → ⊥) }
 {
     let layout = layout_by(alloc, terrain, order)?;
-    let terrain = Arc::try_clone(terrain)?;
     Ok(boxed(alloc, terrain, layout)?)
 }
 
@@ -139,6 +126,9 @@ fn order_of(alloc: Global, content: &Content) -> Result<Vec<u32>, u32>
     let Some(layout) = share.layout() else {
         return Err(NO_ORDER);
     };
+    if layout.prepared.is_none() {
+        return Err(NO_ORDER);
+    }
     match copy_of(alloc, &layout.nodes) {
         Ok(order) => Ok(order),
         Err(_) => Err(OUT_OF_MEMORY),

@@ -15,23 +15,26 @@ use ea_road::Turned;
 use std::alloc::{AllocError, Global};
 use std::sync::Arc;
 
-/// The layout of a turned network, prepared over the order of the road's own; none if that isn't worth it.
+/// The layout of a turned network in the order of the road's own layout, and prepared over it if that is; none if a preparation isn't worth it.
 fn turned_layout(
     alloc: Global,
     turned: &TurnedRoad,
-    order: &[u32],
+    layout: &Layout,
 ) -> Result<Option<Layout>, AllocError>
     ensures { IfOk result (λ found. IfSome found (IsLaidTurned turned.now)) }
 {
+    if layout.prepared.is_none() {
+        return Ok(Some(Layout::over(alloc, &turned.network, &layout.nodes)?));
+    }
     let times = Turned::of(&turned.terrain.road.times);
-    match Layout::prepare_by(alloc, &turned.network, &times, order) {
+    match Layout::prepare_by(alloc, &turned.network, &times, &layout.nodes) {
         Ok(layout) => Ok(Some(layout)),
         Err(Unprepared::OutOfMemory) => Err(AllocError),
         Err(Unprepared::NotWorth | Unprepared::NoOrder) => Ok(None),
     }
 }
 
-/// A road turned round, in a new box; prepared if the road is.
+/// A road turned round, in a new box; laid out or prepared if the road is.
 fn turned_round(alloc: Global, share: &Share) -> Result<Box<Content, Global>, AllocError>
     ensures { IfOk result (λ it. turned_in (Some it.value) ≡ Some share.now.road) }
 {
@@ -39,7 +42,7 @@ fn turned_round(alloc: Global, share: &Share) -> Result<Box<Content, Global>, Al
     let network = terrain.road.network.turned(alloc)?;
     let turned = TurnedRoad { terrain, network };
     let layout = match share.layout() {
-        Some(layout) => turned_layout(alloc, &turned, &layout.nodes)?,
+        Some(layout) => turned_layout(alloc, &turned, layout)?,
         None => None,
     };
     let turned = TurnedShare::of(alloc, turned, layout)?;
@@ -61,8 +64,8 @@ fn turned_of(alloc: Global, content: &Content) -> Result<Box<Content, Global>, u
     }
 }
 
-/// Turns a road round, for searches for latest departures: takes as much memory as its network once more. A prepared road is prepared turned
-/// round, too, over the same order, so that searches of pairs on it are led.
+/// Turns a road round, for searches for latest departures: takes as much memory as its network once more. A road that is laid out or
+/// prepared is so turned round, too, over the same order.
 ///
 /// The handle `turned` holds it afterwards, with a share of the road, so the road may be freed before it; its earlier content is freed.
 /// If the call doesn't return 0, the handle is unchanged.

@@ -38,8 +38,8 @@ fn keep(alloc: Global, session: Session, handle: &mut Handle) -> u32
 }
 
 /// Makes a search on a road. If `walks` isn't 0 it has room for walks, and each query finds canonical walks
-/// too. Its arrays take about 40 bytes for each node, 60 with walks; on a prepared road 8 more, or 20; from its first query for some nodes on,
-/// 16 more.
+/// too. Its arrays take about 40 bytes for each node, 60 with walks; on a road that is laid out or prepared 8 more, or 20; from its first
+/// query for some nodes on, 16 more.
 ///
 /// The search has a share of the road, so the road may be freed before it. The handle `search` holds the
 /// search afterwards; its earlier content is freed. If the call doesn't return 0, the handle is unchanged.

@@ -26,9 +26,9 @@ impl LatestSearch {
         ensures walks { IfOk result (λ it. it.walks ≡ walks) }
     {
         let share = share.again()?;
-        let is_prepared = share.layout().is_some();
+        let is_laid = share.layout().is_some();
         let nodes = share.turned().network.nodes();
-        let search = RoadSearch::reserve(alloc, nodes, walks, is_prepared)?;
+        let search = RoadSearch::reserve(alloc, nodes, walks, is_laid)?;
         Ok(LatestSearch {
             share,
             search,

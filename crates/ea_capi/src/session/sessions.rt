@@ -21,8 +21,8 @@ impl Session {
         ensures unasked { IfOk result (λ it. it.asked ≡ None) }
     {
         let share = share.again()?;
-        let is_prepared = share.layout().is_some();
-        let search = RoadSearch::reserve(alloc, share.road().network.nodes(), walks, is_prepared)?;
+        let is_laid = share.layout().is_some();
+        let search = RoadSearch::reserve(alloc, share.road().network.nodes(), walks, is_laid)?;
         Ok(Session {
             share,
             search,

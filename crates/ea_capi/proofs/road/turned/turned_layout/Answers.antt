@@ -15,16 +15,15 @@ pub prepare_by-requires : goal.prepare_by-requires
 prepare_by-requires c =
     let turned = c.args.turned.now in
     let road = (arc_value turned.terrain).road in
-    let same : c.of-times.result.times.now ≡ road.times = c.of-times.ensures ∙ ap (λ (it : Terrain). it.road.times) c.deref.ensures in
+    let same : c.of-times.result.times.now ≡ road.times = c.of-times.ensures ∙ ap (λ (it : Terrain). it.road.times) c.deref-2.ensures in
     let top : top_class turned.network.arcs ≡ top_class road.network.arcs = ap (λ (r : Roads). top_class r.arcs) turned.turned ∙ turned_top road.network.arcs in
     subst (λ (ts : RoadTimes). top_class turned.network.arcs ≤ length ts.tables.list.items) (sym same) (subst (λ n. n ≤ length road.times.tables.list.items) (sym top) (arc_value turned.terrain).classed)
 
 pub returns-in-Ok : goal.returns-in-Ok
 returns-in-Ok c =
     let turned = c.args.turned.now in
-    let same : c.of-times.result.times.now ≡ (arc_value turned.terrain).road.times = c.of-times.ensures ∙ ap (λ (it : Terrain). it.road.times) c.deref.ensures in
+    let same : c.of-times.result.times.now ≡ (arc_value turned.terrain).road.times = c.of-times.ensures ∙ ap (λ (it : Terrain). it.road.times) c.deref-2.ensures in
     record {
       laid_out = c.in-Ok.ensures.laid_out;
-      is_there = c.in-Ok.ensures.is_there;
       prepared = subst (λ (ts : RoadTimes). IsPreparedLaid (IsTurned (IsDirected ts.direction (TimetablesAnswer ts.tables.list.items (steps_in ts.tables.steps)))) c.in-Ok.layout) same c.in-Ok.ensures.prepared;
     }
