@@ -48,18 +48,15 @@ fn fill<H: Threads + Sync>(
     requires { CanFill road.now queries.now options.now }
     ensures { IsFilled road.now queries.now options.now slot.new }
 {
-    slot.found = match queries.get(slot.place) {
-        Some(query) => find(
-            alloc,
-            rt,
-            road,
-            query,
-            options,
-            options.counted_workers() as u32,
-        )
-        .ok(),
-        None => None,
+    let Some(query) = queries.get(slot.place) else {
+        slot.found = None;
+        return;
     };
+    let workers = options.counted_workers() as u32;
+    match find(alloc, rt, road, query, options, workers) {
+        Ok(found) => slot.found = Some(found),
+        Err(_) => slot.found = None,
+    }
 }
 
 /// Searches the problems of all slots, each in a separate thread if one can be started.

@@ -9,7 +9,7 @@ ghost use Rattle.ea_options.specs.Limits.{AreOptions, counted_workers};
 ghost use Rattle.earliest.specs.Counted.{AreOfOne, CanRun, CanRunCopies, IsTotal, totals_by};
 ghost use Rattle.ea_rank_command.specs.Generators.{generators_from};
 ghost use Rattle.earliest.specs.Running.{IsFoundAndCounted, IsFoundByWorkers};
-ghost use Rattle.earliest.specs.Choices.{AreSettingsFor, CanChoose, CanLimit, CanSetUp, IsChosen, asks_for_workers, at_once_on, counted_at_once, goes_ahead, is_alone, workers_asked, workers_by, workers_for, workers_on};
+ghost use Rattle.earliest.specs.Choices.{AreSettingsFor, CanChoose, CanLimit, CanSetUp, IsChosen, asks_for_workers, at_once_on, counted_at_once, goes_ahead, is_alone, settings_for, workers_asked, workers_by, workers_for, workers_on};
 ghost use Rattle.earliest.specs.Workers.{AreAtHome, settings_with};
 
 use crate::totals::work_of;
@@ -434,6 +434,8 @@ pub(crate) fn find<H: Threads + Sync>(
     requires posed { IsPosed road.now query.now }
     requires can { CanSetUp options.now workers }
     ensures found { IfOk result (IsFoundByWorkers options.now.walks road.now query.now) }
+    ensures chosen { IfOk result (λ found.
+        IsTotal (settings_for options.now workers) query.now found.totals) }
     ensures counted { IfOk result (λ found. options.now.stats ≡ true
         → IsTotal (settings_with options.now workers) query.now found.totals) }
 {
