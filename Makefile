@@ -1,6 +1,6 @@
 # `make` builds the program, `make run` runs its main job, `make test` runs the whole gate (`rt ci`, then the suites of tests/ with the
 # program that it has built), and `make cases` runs the suites alone.
-# `make large` tries sizes of gigabytes, for minutes.
+# `make large` tries sizes of gigabytes, for minutes, and `make hostile` a million hostile runs beside a plain model, for a quarter of an hour.
 # `make try ARGS="run examples/commuter.gr examples/commuter.ss"` runs a command with no proof, within a minute.
 # `make part CRATES="ea_input"` proves some crates and those that they stand on, with their edits and tests.
 # `make lib` builds the library for C, C++ and Python (lib/), and puts it beside the Python package. `make install PREFIX=..` installs
@@ -10,7 +10,7 @@
 # `make serve` shows the commuter town on a map in the browser, with ARGS="--port 8400" at another address.
 # `make bench` measures the program in bin/ beside its peers on networks of up to 10^6 nodes, with SIZE=large up to 10^7, and writes
 # bench/results/ and docs/performance.md.
-.PHONY: all lib run serve try test part cases large dist dist-test reproduce bench install clean
+.PHONY: all lib run serve try test part cases large hostile dist dist-test reproduce bench install clean
 
 PREFIX ?= /usr/local
 
@@ -42,6 +42,9 @@ cases: all lib
 
 large: all
 	python3 tests/cli/nightly.py bin/earliest
+
+hostile: all lib
+	python3 tests/hostile/run.py bin/earliest --full --processes 4
 
 dist:
 	@test -x bin/earliest -a -f lib/libearliest.so || $(MAKE) all lib
