@@ -83,6 +83,7 @@ def write_sources(folder):
     """A node without arcs with the most sources of a file; four nodes with many sources and many pairs."""
     write(folder, "one.gr", ["p sp 1 0\n"])
     write(folder, "million.ss", ["p aux sp ss 1000000\n", "s 1\n" * 1_000_000])
+    write(folder, "million.p2p", ["p aux sp p2p 1000000\n", "q 1 1\n" * 1_000_000])
     write(folder, "many.ss", [f"p aux sp ss {MANY}\n", "s 1\ns 4\n" * (MANY // 2)])
     write(folder, "many.p2p", [f"p aux sp p2p {MANY}\n", "q 1 4\nq 4 1\n" * (MANY // 2)])
 
@@ -160,6 +161,7 @@ def results(program, examples):
         far = far_report()
         yield ran("run far.gr far.ss --walks", far)
         yield ran("run far.gr far.ss --walks --workers 4", far)
+        yield ran("run far.gr far.ss --workers 4", "".join(line for line in far.splitlines(True) if not line.startswith("w")))
         write(folder, "far.report", [far])
         yield ran("check far.gr far.ss far.report", "ok\n")
         write_walked(folder)
@@ -168,6 +170,8 @@ def results(program, examples):
         yield ran("run one.gr million.ss --joint", "s 1 0\n" * 1_000_000 + "d 1 0\n")
         four_nodes = os.path.join(examples, "four-nodes.gr")
         yield ran(f"run {four_nodes} many.ss --workers 1", many_report())
+        yield ran(f"run {four_nodes} many.ss", many_report())
+        yield ran("pairs one.gr million.p2p", "q 1 1 0\nd 1 0\n" * 1_000_000)
         yield ran(f"pairs {four_nodes} many.p2p", many_pair_report())
         write(folder, "many.report", [many_report()])
         yield ran(f"check {four_nodes} many.ss many.report", "ok\n")

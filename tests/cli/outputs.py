@@ -37,8 +37,20 @@ def ran(program, words, **how):
 
 def streams(program, folder):
     """Names of descriptors: their earlier content stays, and no link of the system is replaced."""
+    try:
+        yield from _streams(program, folder)
+    finally:
+        # A program that replaces these as root leaves the machine without them.
+        for name, number in (("/dev/stdout", 1), ("/dev/stderr", 2)):
+            if not os.path.islink(name) and os.geteuid() == 0:
+                os.remove(name)
+                os.symlink(f"/proc/self/fd/{number}", name)
+
+
+def _streams(program, folder):
     link = os.path.join(folder, "link")
     os.symlink("/dev/stdout", link)
+    yield "-o /dev/stdout, captured", ran(program, ["run", *FILES, "-o", "/dev/stdout"]), (0, REPORT, b"")
     for name in ("/dev/stdout", "/dev/fd/1", "/proc/self/fd/1", "/proc/thread-self/fd/1", "/dev/../dev/stdout", link):
         log = os.path.join(folder, "log")
         with open(log, "wb") as file:
@@ -187,6 +199,9 @@ def parts(program, folder):
         os.mkdir(place)
         make(victim, name + ".part0")
         yield f"a part file that another made by {make.__name__}", (ran(program, words), read(victim), read(name)), ((0, b"", b""), b"kept", REPORT)
+    with open(os.path.join(HERE, "..", "..", "docs", "guide", "commands.md"), encoding="utf-8") as page:
+        text = page.read()
+    yield "the page tells of part files", [it in text for it in ("named FILE`.part0`", "A killed run leaves its part file")], [True, True]
 
 
 def guarded(program, folder):
@@ -213,6 +228,8 @@ def guarded(program, folder):
         os.chown(name, owner, owner)
         os.chmod(name, mode)
 
+    old(NOBODY, 0o640)
+    yield "a file keeps its owner", (ran(tool, words), os.stat(name).st_uid, os.stat(name).st_gid, stat.S_IMODE(os.stat(name).st_mode), read(name)), ((0, b"", b""), NOBODY, NOBODY, 0o640, REPORT)
     old(NOBODY, 0o644)
     os.chmod(place, 0o555)
     yield "a file in a folder that takes none", (ran(tool, words, user=NOBODY), read(name)), ((0, b"", b""), REPORT)

@@ -18,6 +18,7 @@ import checking
 import commuter_network
 import documents
 import explained
+import instructions
 import large
 import latest
 import opening
@@ -186,6 +187,7 @@ def run_each(program):
     results += terminal.results(program)
     results += documents.results(program)
     results += resources.results(program)
+    results += instructions.results(program)
     return results + list(large.results(program, EXAMPLES))
 
 

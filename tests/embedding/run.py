@@ -53,6 +53,21 @@ def numbered():
         yield f"the header's words for {name}", says and (int(says[1]), says[2].upper()), (number, name.replace("_", ""))
 
 
+# Instructions a node for one more query on a path, as they were counted.
+COUNTED = (("from", 271), ("pair", 271), ("asking", 137), ("until", 316), ("pair_until", 313))
+
+
+def searched_once(once):
+    """Each query is searched once: its instructions are at most half as many again as were counted. A second search takes twice as many."""
+    yield "once.c, compiled", built("cc", ["-std=c99", "-O2"], os.path.join(HERE, "once.c"), once), None
+    words, nodes, more = ["valgrind", "--tool=cachegrind", "--cache-sim=no", "--cachegrind-out-file=/dev/null", once], 5000, 20
+    for sort, most in COUNTED:
+        runs = [ran([*words, sort, str(nodes), str(count)]) for count in (1, 1 + more)]
+        one, many = (int(re.search(rb"I\s+refs:\s+([\d,]+)", it[2])[1].replace(b",", b"")) for it in runs)
+        each = (many - one) / (more * nodes)
+        yield f"instructions a node: {sort}", (runs[0][0], runs[1][0], 0 < each <= 1.5 * most or each), (0, 0, True)
+
+
 def in_c(room):
     """Each call of C with each refusal, and 100,000 calls with bad numbers, under a checker of memory; the
     example."""
@@ -64,6 +79,7 @@ def in_c(room):
         yield "the calls of C, compiled for valgrind", built("cc", ["-std=c99", "-g"], os.path.join(HERE, "calls.c"), plain), None
         words = ["valgrind", "-q", "--error-exitcode=9", "--leak-check=full"]
         yield "the calls of C under valgrind", ran([*words, plain, *FILES]), (0, b"", b"")
+        yield from searched_once(os.path.join(room, "once"))
     else:
         print("left out: the calls of C under valgrind, which isn't there")
     threads = os.path.join(room, "threads")
