@@ -47,14 +47,14 @@ def archived():
 
 
 def archived_over(room):
-    """The same in a copy of the repository in which rt ci has proved the crates below it, by two jobs. (`rt lib` would prove those again:
-    what rt ci leaves has no stamp.)"""
+    """The same in a copy of the repository in which rt ci has proved the crates below it, by up to four jobs, since nothing else runs then. (`rt
+    lib` would prove those again: what rt ci leaves has no stamp.)"""
     _, rtlib = repository.kit()
     os.chdir(room)
     rtlib.guarded()
     crate = next(it for it in rtlib.crates_below(os.path.realpath(room)) if it.name == CRATE)
     with tempfile.TemporaryFile("w+", errors="replace") as crate.out:
-        status = crate.build_static(["--jobs", "2"])
+        status = crate.build_static(["--jobs", str(max(1, min(4, len(os.sched_getaffinity(0)))))])
         crate.out.seek(0)
         return os.path.join(crate.folder, "out", f"lib{CRATE}.a"), status, crate.out.read()
 
