@@ -45,6 +45,7 @@ def main():
         words.add_argument("--" + name, type=int, default=value)
     words.add_argument("--program", default=os.path.join(ROOT, "bin", "earliest"))
     asked = words.parse_args()
+    asked.program = os.path.abspath(asked.program)
     import earliest
     from earliest import report
 
