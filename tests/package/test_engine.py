@@ -306,14 +306,21 @@ class Answers(Case):
 
     def test_searches_on_a_layout_take_less_time(self):
         lists = plain.shuffled(*plain.grid(500))
-        roads = [earliest.Road.of_arcs(*lists).lay_out(wanted=it) for it in (False, True)]
-        took = [[], []]
-        for _ in range(5):
-            for times, road in zip(took, roads):
-                begun = process_time()
-                road.arrivals([3, 4], threads=1)
-                times.append(process_time() - begun)
-        self.assertLess(min(took[1]), 0.85 * min(took[0]), took)
+        roads = [earliest.Road.of_arcs(*lists) for _ in range(2)]
+        begun = process_time()
+        self.assertTrue(roads[1].lay_out().laid_out)
+        layout = process_time() - begun
+        roads[0].lay_out(wanted=False)
+        for call in (lambda road: road.arrivals([3, 4], threads=1), lambda road: road.departures([3, 4], earliest.HORIZON, threads=1)):
+            took = [[], []]
+            for _ in range(5):
+                for times, road in zip(took, roads):
+                    begun = process_time()
+                    call(road)
+                    times.append(process_time() - begun)
+            self.assertLess(min(took[1]), 0.85 * min(took[0]), took)
+            # A layout takes as long as some searches; these are of two rows.
+            self.assertLess(layout, 10 * min(took[0]))
 
     def test_a_road_that_is_not_worth_a_preparation(self):
         net = plain.network(3, 4000, 16000, ())

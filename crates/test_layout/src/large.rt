@@ -85,7 +85,8 @@ fn grid<R: Rng>(
     Ok(Some(Network::new(alloc, NODES as u32, arcs)?))
 }
 
-/// Whether a layout pays on a grid in order, and on one whose nodes are numbered at random.
+/// Whether a layout pays, or all nodes would be searched on it, on a grid in order; and whether both hold on one whose nodes are numbered at
+/// random.
 fn pays(alloc: Global) -> Result<(bool, bool), AllocError> {
     let mut words = Xoshiro256PlusPlus::seed_from_u64(7);
     let mut numbers = in_order(alloc)?;
@@ -98,7 +99,9 @@ fn pays(alloc: Global) -> Result<(bool, bool), AllocError> {
     };
     let one = Layout::of(alloc, &ordered)?.is_some();
     let other = Layout::of(alloc, &shuffled)?.is_some();
-    Ok((one, other))
+    let for_all = Layout::new(alloc, &ordered)?.is_for_all;
+    let other_for_all = Layout::over(alloc, &shuffled, &numbers)?.is_for_all;
+    Ok((one || for_all, other && other_for_all))
 }
 
 /// Compares answers on a grid whose nodes are numbered at random.

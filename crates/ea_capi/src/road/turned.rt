@@ -1,5 +1,5 @@
 //! Roads turned round, for latest departures.
-ghost use Rattle.std.specs.Prelude.{◌≡◌, IfErr, IfOk, IfSome, MatchOption, None, Some};
+ghost use Rattle.std.specs.Prelude.{◌≡◌, IfErr, IfOk, IfSome, IsTrue, MatchOption, None, Some, is_some};
 ghost use Rattle.ea_capi.specs.LatestCalls.{IsTurnedRound, IsTurnedOf};
 ghost use Rattle.ea_capi.specs.Shared.{IsLaidTurned};
 ghost use Rattle.ea_capi.specs.States.{road_in, turned_in};
@@ -21,7 +21,9 @@ fn turned_layout(
     turned: &TurnedRoad,
     layout: &Layout,
 ) -> Result<Option<Layout>, AllocError>
-    ensures { IfOk result (λ found. IfSome found (IsLaidTurned turned.now)) }
+    ensures laid { IfOk result (λ found. IfSome found (IsLaidTurned turned.now)) }
+    ensures is_there { IsTrue (is_some layout.now.prepared) → IfOk result (λ found.
+        IfSome found (λ it. IsTrue (is_some it.prepared))) }
 {
     if layout.prepared.is_none() {
         return Ok(Some(Layout::over(alloc, &turned.network, &layout.nodes)?));

@@ -19,8 +19,8 @@ prepare_by-requires c =
     let top : top_class turned.network.arcs ≡ top_class road.network.arcs = ap (λ (r : Roads). top_class r.arcs) turned.turned ∙ turned_top road.network.arcs in
     subst (λ (ts : RoadTimes). top_class turned.network.arcs ≤ length ts.tables.list.items) (sym same) (subst (λ n. n ≤ length road.times.tables.list.items) (sym top) (arc_value turned.terrain).classed)
 
-pub returns-in-Ok : goal.returns-in-Ok
-returns-in-Ok c =
+pub returns-in-Ok-clause-laid : goal.returns-in-Ok-clause-laid
+returns-in-Ok-clause-laid c =
     let turned = c.args.turned.now in
     let same : c.of-times.result.times.now ≡ (arc_value turned.terrain).road.times = c.of-times.ensures ∙ ap (λ (it : Terrain). it.road.times) c.deref-2.ensures in
     record {
