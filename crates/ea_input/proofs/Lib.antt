@@ -5,6 +5,7 @@ pub mod OneByOne
 pub mod Items
 pub mod Sorts
 pub mod LastKind
+pub mod TablePiecewise
 pub mod TableSaid
 pub mod TableDenoted
 pub mod Ahead

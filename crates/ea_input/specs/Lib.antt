@@ -10,6 +10,7 @@ pub mod Pairs
 pub mod Fronts
 pub mod StepLines
 pub mod Table
+pub mod TablePieces
 pub mod TableViews
 pub mod TableFronts
 pub mod Ahead

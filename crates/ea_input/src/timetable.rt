@@ -23,7 +23,7 @@ use crate::problem_line::after_kind;
 use crate::step_lines::{StepClass, step_of, step_within};
 use ea_base::{MOST_ARCS, MOST_CLASSES, RawKind, RawTable};
 use ea_blocks::{
-    BlockReader, FaultKind, InputFault, LineReader, StreamFault, read_device, read_text, way_of,
+    FaultKind, InputFault, LineReader, StreamFault, Way, read_device, read_text, way_of,
 };
 use ea_bytes as text;
 use ea_bytes::ByteIn;
@@ -278,10 +278,18 @@ fn last_kind(kinds: &[RawKind]) -> RawKind
 
 /// What the lines of a text said so far.
 #[derive(Drop)]
-struct TableReader {
-    arcs: u32,
-    size: Option<TableSize>,
-    table: RawTable,
+pub(crate) struct TableReader {
+    pub arcs: u32,
+    pub size: Option<TableSize>,
+    pub table: RawTable,
+    /// Whether this reader reads a piece behind lines of assignments.
+    pub is_behind: bool,
+    /// Room for the assignments of a piece that another thread reads.
+    pub spare: Vec<(u32, u32)>,
+    /// The same of a piece of what this reader reads next.
+    pub spare_here: Vec<(u32, u32)>,
+    /// The same of a piece of what the other thread reads.
+    pub spare_there: Vec<(u32, u32)>,
 }
 
 impl TableReader {
@@ -300,7 +308,7 @@ impl TableReader {
     }
 
     /// How many of its steps weren't.
-    fn due(&self) -> usize
+    pub(crate) fn due(&self) -> usize
         ensures { result ≡ spec.due_in (read_of self.now) }
     {
         due(self.class(), self.steps())
@@ -439,10 +447,6 @@ impl LineReader for TableReader {
     ghost front = { table_step-front };
 }
 
-impl BlockReader for TableReader {
-    ghost IsAside = { λ _. Unit {0} };
-}
-
 /// A reader of a text of which no line was read yet.
 fn start(alloc: Global, arcs: u32) -> TableReader
     ensures { read_of result ≡ spec.no_table arcs }
@@ -455,6 +459,10 @@ fn start(alloc: Global, arcs: u32) -> TableReader
             assigned: Vec::new(alloc),
             steps: Vec::new(alloc),
         },
+        is_behind: false,
+        spare: Vec::new(alloc),
+        spare_here: Vec::new(alloc),
+        spare_there: Vec::new(alloc),
     }
 }
 
@@ -486,18 +494,18 @@ pub fn read_tp(alloc: Global, text: &[u8], arcs: u32) -> Result<RawTable, InputF
 
 /// What a device's text is read to, with one clause, which says it step by step.
 fn read_table_from<H: Threads + Sync, D: ByteIn>(
-    alloc: Global,
     rt: &H,
-    threads: usize,
+    way: Way,
     limit: u64,
     device: &mut D,
     arcs: u32,
 ) -> Result<RawTable, StreamFault>
+    requires { 0 < way.size }
     ensures exact { GivesWhole table (table_of arcs) limit
         (D.seen device.old) (D.seen device.new) result }
 {
-    let start = start(alloc, arcs);
-    read_device(rt, way_of(alloc, threads), limit, start, device)
+    let start = start(way.alloc, arcs);
+    read_device(rt, way, limit, start, device)
 }
 
 /// The timetables of a device's text, or why it gave none, as `read_tp` reads a text; at most `limit`
@@ -519,7 +527,27 @@ pub fn read_tp_from<H: Threads + Sync, D: ByteIn>(
     ensures fault { IfErr result
         (IsStreamFault (table_format arcs) limit (D.seen device.old) (D.seen device.new)) }
 {
-    read_table_from(alloc, rt, threads, limit, device, arcs)
+    read_table_from(rt, way_of(alloc, threads), limit, device, arcs)
+}
+
+/// The timetables of a device's text, as `read_tp_from` reads it, in blocks and pieces of the sizes that are given.
+pub fn read_tp_by<H: Threads + Sync, D: ByteIn>(
+    rt: &H,
+    way: Way,
+    limit: u64,
+    device: &mut D,
+    arcs: u32,
+) -> Result<RawTable, StreamFault>
+    requires { 0 < way.size }
+    // What is read is what the text denotes.
+    ensures denoted { IfOk result (λ read.
+        DenotesWhole (DenotesTable arcs) limit (D.seen device.old) (D.seen device.new)
+        (table read)) }
+    // A fault is the device's or the text's, unless memory is refused.
+    ensures fault { IfErr result
+        (IsStreamFault (table_format arcs) limit (D.seen device.old) (D.seen device.new)) }
+{
+    read_table_from(rt, way, limit, device, arcs)
 }
 
 /// The law of the texts of timetables: a text denotes at most one timetable and has at most one

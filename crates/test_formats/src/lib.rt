@@ -10,6 +10,8 @@ mod readers;
 #[cfg(test)]
 mod streams;
 #[cfg(test)]
+mod table_pieces;
+#[cfg(test)]
 mod texts;
 #[cfg(test)]
 mod words;
