@@ -288,6 +288,26 @@ def hard_shapes(program, folder):
         yield grows(f"resources: {words} by default beside one thread", alone, default, 3)
 
 
+def long_waits(program, folder):
+    """A star whose arcs open one after another, and a search for its first and its last leaf, which looks at those that wait whenever its window
+    moves on. Then nodes whose labels fall again and again if they are taken in the order of arcs, in a network whose mean weight puts all of
+    them into one window."""
+    leaves = 60_000
+    write(folder, "waits.gr", [f"p sp {leaves + 1} {leaves}\n", *[f"a 1 {node} 1\n" for node in range(2, leaves + 2)]])
+    kinds = [f"k {kind} every 4294967296 {100 * kind}\n" for kind in range(1, leaves + 1)]
+    write(folder, "waits.tp", [f"p tp {leaves} {leaves}\n", *kinds, *[f"t {arc} {arc}\n" for arc in range(1, leaves + 1)]])
+    write(folder, "ends.ss", ["p aux sp ss 2\n", "s 2\n", f"s {leaves + 1}\n"])
+    everything, ends = (seconds(program, f"run waits.gr one.ss --tp waits.tp {words}", folder) for words in ("", "--nodes ends.ss"))
+    yield grows("resources: two leaves of a star whose arcs open one after another, beside all", everything, ends, 3)
+    ring = 20_000
+    arcs = [f"a 1 {node} {2 * node}\n" for node in range(2, ring + 2)] + [f"a {node} {node + 1} 1\n" for node in range(2, ring + 1)]
+    slow = [f"a {ring + 1} {ring + 1} 4000000000\n"] * len(arcs)
+    write(folder, "falling.gr", [f"p sp {ring + 1} {2 * len(arcs)}\n", *arcs, *slow])
+    write(folder, "end.ss", ["p aux sp ss 1\n", f"s {ring + 1}\n"])
+    everything, end = (seconds(program, f"run falling.gr one.ss {words}", folder) for words in ("", "--nodes end.ss"))
+    yield grows("resources: a node behind others whose labels fall again and again, beside all", everything, end, 30)
+
+
 def left_to_one(program, folder):
     """A path without time, and then a ring whose labels fall again and again in the order of its arcs: two workers leave it to one thread, so
     that they scan few entries."""
@@ -389,5 +409,5 @@ def preparations(program, folder):
 def results(program):
     """Each measure with whether it holds, or its figures, and True."""
     with tempfile.TemporaryDirectory(prefix="resources-") as folder:
-        for part in (network, directions, slow_reader, after_a_fault, made_once, long_walks, shared_walks, alone, near_problems, long_lines, many_steps, hard_shapes, left_to_one, layouts, used_layouts, preparations):
+        for part in (network, directions, slow_reader, after_a_fault, made_once, long_walks, shared_walks, alone, near_problems, long_lines, many_steps, hard_shapes, long_waits, left_to_one, layouts, used_layouts, preparations):
             yield from part(program, folder)

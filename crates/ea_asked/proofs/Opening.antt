@@ -1,31 +1,44 @@
--- Entries that come and go, and the one with the least label.
-use Rattle.std.proofs.Common.{◌≡◌, ◌⊎◌, inl, inr, ℕ, zero, suc, ◌<◌, ◌≤◌, arith, ap, lt-ltb, true, false, List, [], ◌∷◌, map, Contains}
-use Rattle.std.specs.List.{AllByRecursion}
-use Rattle.std.specs.Ordering.{is_lt, nat_cmp, ordering_then}
-use Rattle.std.specs.Prelude.{nat_lt}
-use Rattle.std.proofs.lemmas.Bool.Decides.{leb_tells}
+-- Entries that come and go, and a time that no label of some is below.
+use Rattle.std.proofs.Common.{◌≡◌, ℕ, ◌+◌, ◌-◌, ◌≤◌, arith, sym, subst, List, [], ◌∷◌, ◌++◌, length, map}
+use Rattle.std.specs.List.{All}
+use Rattle.std.specs.List.Sorted.{IsPermutation}
+use Rattle.std.specs.Vec.{with_items}
+use Rattle.std.specs.declared.vec.Vec.{Vec}
+use Rattle.std.proofs.lemmas.List.{length-map, with_items_is}
+use Rattle.std.proofs.lemmas.List.Elements.{All-contains, All-map}
+use Rattle.std.proofs.lemmas.List.Sorted.{IsPermutation-append_comm, IsPermutation-map, IsPermutation-trans, length_permutation}
+use Rattle.ea_goal.specs.Frontiers.{Opens, Takes}
 use Rattle.ea_goal.specs.declared.frontier.Entry.{Entry as Met}
-use Rattle.ea_asked.specs.Open.{AreFrom, entry_order, met}
+use Rattle.ea_goal.proofs.Waiting.{opens, takes}
+use Rattle.ea_road.specs.declared.TheConstants.{NONE}
+use Rattle.ea_asked.specs.Open.{AreFrom, IsFrom, met}
 use Rattle.ea_asked.specs.declared.frontier.Entry.{Entry}
 
-not_less : (a b c d : ℕ) → a < b → is_lt (ordering_then (nat_cmp a b) (nat_cmp c d)) ≡ false → ⊥
-not_less a b c d l h = let e : nat_lt a b ≡ true = lt-ltb _ _ l in let k : true ≡ false = rw e at h in cc
+pub are_from : (least : ℕ) (entries : List Entry) → All (IsFrom least) entries → AreFrom least (map met entries)
+are_from least entries all label node waits =
+    All-contains (λ (m : Met). least ≤ m.label) (map met entries) (record { nearness = waits.nearness; label = label; node = node }) (All-map (λ (m : Met). least ≤ m.label) met entries all) waits.there
 
--- what isn't before an entry has no lower label
-no_lower : (x y : Entry) → is_lt (entry_order y x) ≡ false → x.label ≤ y.label
-no_lower x y h = elim (leb_tells x.label y.label) [
-  | inl low ↦ low.1
-  | inr less ↦ absurd (not_less y.label x.label y.node x.node less.1 h)
-]
+-- An entry comes to the end, and entries are moved.
+pub opened : (before pushed after : List Entry) (entry : Entry) → pushed ≡ before ++ entry ∷ [] → IsPermutation pushed after → Opens (map met before) (map met after) entry.label entry.node entry.label
+opened before pushed after entry is moved =
+    let last : List Entry = entry ∷ [] in
+    let comes : IsPermutation (entry ∷ before) after =
+    IsPermutation-trans (entry ∷ before) pushed after (subst (λ (xs : List Entry). IsPermutation (entry ∷ before) xs) (sym is) (IsPermutation-append_comm last before)) moved in
+    let long : length (map met after) ≡ length (map met before) + 1 = simp length-map (omega (arith, length_permutation (entry ∷ before) after comes)) in
+    opens (map met before) (map met after) (NONE - entry.label) entry.label entry.node entry.label (IsPermutation-map met (entry ∷ before) after comes) (omega arith) long
 
-front_or_behind : (e other : Met) (es : List Met) → Contains (e ∷ es) other → (e ≡ other) ⊎ Contains es other
-front_or_behind e other es (zero, inside, is) = inl is
-front_or_behind e other es (suc place, inside, is) = inr (place, omega (arith, inside), is)
+-- Entries are moved, and the last one goes.
+pub taken : (before moved : List Met) (after : List Entry) (entry : Entry) → IsPermutation before moved → moved ≡ map met (after ++ entry ∷ []) → Takes before (map met after) (met entry)
+taken before moved after entry is at_end =
+    let last : List Entry = entry ∷ [] in
+    let goes : IsPermutation (map met (after ++ last)) (map met (entry ∷ after)) = IsPermutation-map met (after ++ last) (entry ∷ after) (IsPermutation-append_comm after last) in
+    let all : IsPermutation before (met entry ∷ map met after) =
+    IsPermutation-trans before moved (met entry ∷ map met after) is (subst (λ (xs : List Met). IsPermutation xs (met entry ∷ map met after)) (sym at_end) goes) in
+    takes before (map met after) (met entry) all (omega (arith, length_permutation before (met entry ∷ map met after) all))
 
-module _ {R : Type 0} (entry_of : R → Entry) where
-  pub are_from : (x : Entry) (rs : List R) → AllByRecursion (λ r. is_lt (entry_order (entry_of r) x) ≡ false) rs → AreFrom x.label (map (λ r. met (entry_of r)) rs)
-  are_from x [] none label node waits = let inside = waits.there.1 in absurd (omega (arith, inside))
-  are_from x (r ∷ rs) all label node waits = elim (front_or_behind (met (entry_of r)) (record { nearness = waits.nearness; label = label; node = node }) (map (λ s. met (entry_of s)) rs) waits.there) [
-    | inl is ↦ (let low = no_lower x (entry_of r) all.0 in omega (arith, low, ap (λ (e : Met). e.label) is))
-    | inr behind ↦ are_from x rs all.1 label node (record { nearness = waits.nearness; there = behind })
-  ]
+-- The entries of a vector are moved in their places.
+pub divided : {Z : Type 0} (before : Vec Entry Z) (value after : List Entry) → value ≡ before.items → IsPermutation value after → IsPermutation before.items (with_items before after).items
+divided before value after is moved =
+    let there : IsPermutation before.items after = subst (λ (xs : List Entry). IsPermutation xs after) is moved in
+    let long : length after ≡ before.len = omega (arith, length_permutation before.items after there, before.ok) in
+    subst (λ (xs : List Entry). IsPermutation before.items xs) (sym (with_items_is before after long)) there

@@ -1,7 +1,5 @@
 -- The open nodes of a search without bounds. Its rules are those of a search that is led by bounds, all of which are 0.
 use Rattle.std.specs.Prelude.{ℕ, ◌-◌, ◌<◌, ◌≤◌, List, Contains}
-use Rattle.std.specs.Ordering.{nat_cmp, ordering_then}
-use Rattle.std.specs.declared.cmp.Ordering.{Ordering}
 use Rattle.ea_goal.specs.Frontiers.{Waits}
 use Rattle.ea_goal.specs.declared.frontier.Entry.{Entry as Met}
 use Rattle.ea_road.specs.declared.TheConstants.{NONE}
@@ -16,9 +14,9 @@ no_bound node = 0
 abbrev pub met : Entry → Met
 met entry = record { nearness = NONE - entry.label; label = entry.label; node = entry.node }
 
--- The order of entries: by label, then by node.
-abbrev pub entry_order : Entry → Entry → Ordering
-entry_order x y = ordering_then (nat_cmp x.label y.label) (nat_cmp x.node y.node)
+-- The label of an entry isn't below a time.
+abbrev pub IsFrom : ℕ → Entry → Type 0
+IsFrom least entry = least ≤ entry.label
 
 -- No open node has a label below this one.
 abbrev pub AreFrom : ℕ → List Met → Type 0

@@ -1,4 +1,4 @@
-//! The search: labels fall along arcs from open nodes, those with the least labels first.
+//! The search: labels fall along arcs from open nodes, those with the least labels nearly first.
 ghost use Rattle.std.specs.Prelude.{◌≡◌, ◌≤◌, ◌<◌, ℕ, All, MatchOption, length};
 ghost use Rattle.ea_base.specs.declared.limits.TheConstants.{HORIZON};
 ghost use Rattle.ea_road.specs.Labels.{label_of};
@@ -117,7 +117,7 @@ impl Underway {
         Ok(())
     }
 
-    /// Takes the open node with the least label; none if the labels of all asked nodes are below it.
+    /// Takes one of the open nodes with the least labels; none if the labels of all asked nodes are below all of them.
     fn next(&mut self, asked: &[u32], passed: &mut Passed) -> Option<Entry>
         requires { CanPass self.old.table.labels.items asked.now passed.old }
         ensures table { self.new.table ≡ self.old.table }
@@ -163,6 +163,7 @@ impl Underway {
             (AreSeededFor network.now.nodes sources.now
             self.new.table.labels.items self.new.frontier (length sources.now)) }
     {
+        self.frontier.pace(network.mean_weight());
         for source in sources {
             self.offer(source.node, source.departure)?;
         }

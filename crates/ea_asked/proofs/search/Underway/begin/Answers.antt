@@ -18,7 +18,7 @@ among_at sources place inside = (place, (inside, get_or_default sources place no
 pub loop-source-init : goal.loop-source-init
 loop-source-init c = record {
   reached = reached_none c.args.self.now.table;
-  seeded = λ target from. seeded_none c.args.network.now.nodes c.args.sources.now target no_bound c.args.self.now.table.labels.items c.args.self.now.frontier c.requires.labels c.requires.closed;
+  seeded = λ target from. seeded_none c.args.network.now.nodes c.args.sources.now target no_bound c.args.self.now.table.labels.items c.pace.new.self c.requires.labels (c.pace.ensures ∙ c.requires.closed);
 }
 
 pub loop-source-preserved : goal.loop-source-preserved
