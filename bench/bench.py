@@ -98,18 +98,19 @@ class Bench:
             texts = network.scatter(self.built)
             self.turns("scattered", programs.scattered(self.built, network, texts, 1), rounds)
             self.turns("scattered", programs.scattered(self.built, network, texts, 64), min(3, rounds))
-        self.check(network, network.one, programs.checks, rounds)
+        for kind in ("plain", "timetables"):
+            self.check(network, network.one, kind, programs.checks, rounds)
         if network.nodes <= 1_000_000:
-            self.check(network, network.many, programs.checks_of_many, min(3, rounds))
+            self.check(network, network.many, "timetables", programs.checks_of_many, min(3, rounds))
 
-    def check(self, network, sources, jobs, rounds):
-        """Checks of a report of a network's sources, with timetables."""
+    def check(self, network, sources, kind, jobs, rounds):
+        """Checks of a report of a network's sources, with plain weights or timetables."""
         report = self.built.at("checked.report")
-        words, _ = network.words("timetables")
+        words, _ = network.words(kind)
         with open(report, "wb") as file:
             words = [programs.EARLIEST, "run", network.gr, sources, *words, "--depart", str(programs.DEPART)]
             subprocess.run(words, stdout=file, check=True)
-        self.turns("check", jobs(self.built, network, report), rounds, same=False)
+        self.turns("check", jobs(self.built, network, report, kind), rounds, same=False)
         os.remove(report)
 
     def prepared(self):

@@ -88,7 +88,8 @@ The same network and sources, numbered as they were made and at random; plain we
 CHECKS = """## Checking and rank errors
 
 `check` of a report of one problem beside searching again and comparing by hand, which trusts that search; `rank` records a run over eight
-heaps and tells the rank error of each pop. The base is the one by hand. A report of 64 problems is checked beside the run that writes it.
+heaps and tells the rank error of each pop. The base is the one by hand. `check` takes as many threads as there are processors, or one processor
+(by `taskset`). A report of 64 problems is checked beside the run that writes it.
 """
 
 EMBEDDED = """## From Python
@@ -319,7 +320,8 @@ def scattered(rows, rounds):
 def checks(rows, rounds):
     out = [CHECKS]
     for at, these in shown(groups(rows, "seconds")):
-        what = f"{at[1]:,} nodes, timetables, {at[0] if at[0] != 'timetables' else 'one problem'}, {rounds(at)} rounds"
+        kind = {"plain": "plain weights, one problem", "timetables": "timetables, one problem"}.get(at[0], f"timetables, {at[0]}")
+        what = f"{at[1]:,} nodes, {kind}, {rounds(at)} rounds"
         out += table(what, these, these.get(("search again and compare, by hand", 1)))
     return out
 

@@ -239,9 +239,9 @@ def scattered(programs, network, texts, problems):
     return jobs
 
 
-def checks_of_many(programs, network, report):
+def checks_of_many(programs, network, report, kind):
     """Checking a report of 64 problems, beside the run that made it."""
-    ours, tp = network.words("timetables")
+    ours, tp = network.words(kind)
     at, depart = ("64 problems", network.nodes), ["--depart", str(DEPART)]
     jobs = [Job(*at, "search again and compare, by hand", 1, 0, [programs.hand, "check", network.gr, network.many, tp, str(DEPART), report])]
     for threads in (1, 4):
@@ -250,12 +250,17 @@ def checks_of_many(programs, network, report):
     return [*jobs, Job(*at, "earliest check", 4, 0, [EARLIEST, "check", network.gr, network.many, report, *ours, *depart])]
 
 
-def checks(programs, network, report):
-    """Checking a report, compared with searching again; and rank errors."""
-    ours, tp = network.words("timetables")
-    at, depart = ("timetables", network.nodes), ["--depart", str(DEPART)]
-    return [
+def checks(programs, network, report, kind):
+    """Checking a report by one processor and by all of them, compared with searching again; with timetables also rank errors."""
+    ours, tp = network.words(kind)
+    at, depart = (kind, network.nodes), ["--depart", str(DEPART)]
+    check = [EARLIEST, "check", network.gr, network.one, report, *ours, *depart]
+    jobs = [
         Job(*at, "search again and compare, by hand", 1, 0, [programs.hand, "check", network.gr, network.one, tp, str(DEPART), report]),
-        Job(*at, "earliest check", 1, 0, [EARLIEST, "check", network.gr, network.one, report, *ours, *depart]),
-        Job(*at, "earliest rank", 1, 0, [EARLIEST, "rank", network.gr, network.one, *ours, *depart]),
+        Job(*at, "earliest check", len(os.sched_getaffinity(0)), 0, check),
     ]
+    if shutil.which("taskset"):
+        jobs.append(Job(*at, "earliest check", 1, 0, ["taskset", "--cpu-list", str(min(os.sched_getaffinity(0))), *check]))
+    if kind == "timetables":
+        jobs.append(Job(*at, "earliest rank", 1, 0, [EARLIEST, "rank", network.gr, network.one, *ours, *depart]))
+    return jobs
