@@ -56,7 +56,7 @@ def listed(code: str, values: Iterable[Any], what: str):
             raise ValueError("the array has to have one dimension")
         if values.dtype.kind in "ui" or not len(values):
             if len(values) and (int(values.min()) < 0 or int(values.max()) > most):
-                outside(next(int(value) for value in values if not 0 <= value <= most), most)
+                refuse_outside(what, values, most)
             return numpy.array(values, dtype=TYPES[code], order="C", copy=True)
         if values.dtype.kind != "O":
             raise TypeError("the array has to be one of whole numbers")
@@ -66,17 +66,17 @@ def listed(code: str, values: Iterable[Any], what: str):
         if "whole number" in str(error):
             raise
         raise TypeError(f"{what} have to be a list of whole numbers, not {values!r}") from None
-    for value in found:
-        if not 0 <= value <= most:
-            outside(value, most)
+    refuse_outside(what, found, most)
     return numpy.array(found, dtype=TYPES[code]) if numpy is not None else array.array(code, found)
 
 
-def outside(value: int, most: int):
-    """Refuses a number."""
-    error = OverflowError(f"a number is not within 0 to {most}")
-    error.outside = value  # type: ignore[attr-defined]
-    raise error
+def refuse_outside(what: str, values: Iterable[Any], most: int):
+    """Refuses the first number that is beyond a range, by its place."""
+    for place, value in enumerate(values):
+        if not 0 <= value <= most:
+            error = OverflowError(f"{what}: a number is not within 0 to {most}: {int(value)}, at place {place}")
+            error.outside = int(value)  # type: ignore[attr-defined]
+            raise error
 
 
 def address(values: Any) -> int:

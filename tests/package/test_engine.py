@@ -574,7 +574,9 @@ class Refusals(Case):
         self.refused(23, lambda: make(2, [1, 2], [2], [1, 1]), (2, 1, 2))
         self.refused(23, lambda: make(2, [1], [2], [1], []), (1, 1, 1, 0))
         for weight in (2**32, -1):
-            self.assertEqual(self.told(OverflowError, "a number is not within 0 to 4294967295", lambda: make(2, [1], [2], [weight])).outside, weight)
+            for given in ([1, weight], iter([1, weight])):
+                said = f"weights: a number is not within 0 to 4294967295: {weight}, at place 1"
+                self.assertEqual(self.told(OverflowError, said, lambda: make(2, [1, 1], [2, 2], given)).outside, weight)
 
     def test_closed(self):
         with earliest.Road(plain.FOUR) as road:
