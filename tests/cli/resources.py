@@ -291,7 +291,7 @@ def hard_shapes(program, folder):
 def long_waits(program, folder):
     """A star whose arcs open one after another, and a search for its first and its last leaf, which looks at those that wait whenever its window
     moves on. Then nodes whose labels fall again and again if they are taken in the order of arcs, in a network whose mean weight puts all of
-    them into one window."""
+    them into one window. Then a path without time while many nodes wait: no step of it may look at all of them."""
     leaves = 60_000
     write(folder, "waits.gr", [f"p sp {leaves + 1} {leaves}\n", *[f"a 1 {node} 1\n" for node in range(2, leaves + 2)]])
     kinds = [f"k {kind} every 4294967296 {100 * kind}\n" for kind in range(1, leaves + 1)]
@@ -306,6 +306,13 @@ def long_waits(program, folder):
     write(folder, "end.ss", ["p aux sp ss 1\n", f"s {ring + 1}\n"])
     everything, end = (seconds(program, f"run falling.gr one.ss {words}", folder) for words in ("", "--nodes end.ss"))
     yield grows("resources: a node behind others whose labels fall again and again, beside all", everything, end, 30)
+    path = 100_000
+    arcs = [f"a 1 {node} {1_000_000 + node}\n" for node in range(2, path + 2)] + [f"a 1 {path + 2} 0\n"]
+    arcs += [f"a {node} {node + 1} 0\n" for node in range(path + 2, 2 * path + 1)]
+    write(folder, "beside.gr", [f"p sp {2 * path + 1} {len(arcs)}\n", *arcs])
+    write(folder, "far.ss", ["p aux sp ss 1\n", f"s {2 * path + 1}\n"])
+    everything, last = (seconds(program, f"run beside.gr one.ss {words}", folder) for words in ("", "--nodes far.ss"))
+    yield grows("resources: the end of a path beside a star that waits, beside all", everything, last, 3)
 
 
 def left_to_one(program, folder):

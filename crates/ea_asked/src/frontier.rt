@@ -25,7 +25,9 @@ const FEW_BEYOND: usize = 8;
 /// fall again and again.
 const MOST_TAKEN: usize = 4;
 
-const SOME_TAKEN: usize = 16;
+/// A window counts as if it began with this many nodes more, and with one in `MOST_BEYOND` of the open nodes, since all of them are looked at when
+/// it gives way.
+const SOME_INSIDE: usize = 4;
 
 /// Open nodes. Those with labels in a window of time are behind all others and are taken first, the last one first, so a node may be taken before
 /// another whose label is less by no more than the window is long. In contracts it is the list of its entries, in no promised order.
@@ -162,6 +164,16 @@ impl Frontier {
         }
     }
 
+    /// Whether so few labels in the window are final that it had better be shorter.
+    fn is_too_long(&self) -> bool {
+        let looked_at = self.entries.len() / MOST_BEYOND;
+        let enough = self
+            .inside
+            .saturating_add(looked_at)
+            .saturating_add(SOME_INSIDE);
+        self.taken / MOST_TAKEN > enough
+    }
+
     /// Begins a window of this length at the least label.
     fn advance(&mut self, length: u64)
         ensures { IsPermutation self.old self.new }
@@ -180,7 +192,7 @@ impl Frontier {
     {
         if self.begin >= self.entries.len() {
             self.advance(self.next_length());
-        } else if self.taken / MOST_TAKEN > self.inside.saturating_add(SOME_TAKEN / MOST_TAKEN) {
+        } else if self.is_too_long() {
             self.advance((self.length / 2).max(1));
         }
         self.taken = self.taken.saturating_add(1);
