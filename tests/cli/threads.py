@@ -21,6 +21,8 @@ def write(folder, problems):
         file.writelines([f"p sp {NODES} {ARCS}\n", *arcs])
     with open(os.path.join(folder, "net.ss"), "w", encoding="ascii") as file:
         file.writelines([f"p aux sp ss {problems}\n", *[f"s {1 + at}\n" for at in range(problems)]])
+    with open(os.path.join(folder, "net.tp"), "w", encoding="ascii") as file:
+        file.writelines([f"p tp 1 {2 * ARCS}\nk 1 plain\n", *[f"t {arc} 1\n" for arc in range(1, ARCS + 1)] * 2])
 
 
 def seen(program, words, folder, processors):
@@ -50,20 +52,21 @@ def tasks(run):
         return set()
 
 
-def reading(program, folder, processors):
-    """A run whose network comes through a pipe, on this many processors: its status, the most threads seen while all but the last lines
-    come, which read them, and the most seen after these, which make the network."""
+def reading(program, folder, processors, name, words):
+    """A run that gets one of its files through a pipe, on this many processors: its status, the most threads seen while all but the first and
+    the last lines come, which read them, and the most seen after these, which make the network."""
     pipe = os.path.join(folder, "pipe")
     os.mkfifo(pipe)
-    with open(os.path.join(folder, "net.gr"), "rb") as file:
+    with open(os.path.join(folder, name), "rb") as file:
         text = file.read()
-    front, come, last = text[: text.rindex(b"\n", 0, len(text) - 1000) + 1], threading.Event(), threading.Event()
+    front, begun, come, last = text[: text.rindex(b"\n", 0, len(text) - 1000) + 1], threading.Event(), threading.Event(), threading.Event()
 
     def give():
         try:
             with open(pipe, "wb") as file:
                 for at in range(0, len(front), 2**20):
                     file.write(front[at : at + 2**20])
+                    begun.set()
                 file.flush()
                 come.set()
                 last.wait()
@@ -71,12 +74,12 @@ def reading(program, folder, processors):
         except BrokenPipeError:
             pass  # The run ended, and its status says how.
 
-    with subprocess.Popen([program, "run", pipe, "one.ss", "--workers", "1"], cwd=folder, stdin=subprocess.DEVNULL, stdout=subprocess.DEVNULL, preexec_fn=lambda: os.sched_setaffinity(0, processors)) as run:
+    with subprocess.Popen([program, *words.split()], cwd=folder, stdin=subprocess.DEVNULL, stdout=subprocess.DEVNULL, preexec_fn=lambda: os.sched_setaffinity(0, processors)) as run:
         giving = threading.Thread(target=give)
         giving.start()
         most = [0, 0]
         while run.poll() is None and (not come.is_set() or len(tasks(run)) > 1):
-            most[0] = max(most[0], len(tasks(run)))
+            most[0] = max(most[0], len(tasks(run)) if begun.is_set() else 0)
         last.set()
         while run.poll() is None:
             most[1] = max(most[1], len(tasks(run)))
@@ -106,13 +109,14 @@ def results(program):
         with open(os.path.join(folder, "one.ss"), "w", encoding="ascii") as file:
             file.write("p aux sp ss 1\ns 1\n")
         # One thread reads on one processor, and several on four; two make the network in any case.
-        for processors in (here[:1], here) if here[3:] else (here[:1],):
-            for _ in range(TRIES):
-                status, read, made = reading(program, folder, processors)
-                was = status, read == 1 if processors == here[:1] else read > 2, made >= 2
-                if was == (0, True, True):
-                    break
-            yield f"threads that read and make a network on {len(processors)} processors", (*was, read, made), (0, True, True, read, made)
+        for name, words in (("net.gr", "run pipe one.ss --workers 1"), ("net.tp", "run net.gr one.ss --tp pipe --workers 1")):
+            for processors in (here[:1], here) if here[3:] else (here[:1],):
+                for _ in range(TRIES):
+                    status, read, made = reading(program, folder, processors, name, words)
+                    was = status, read == 1 if processors == here[:1] else read > 2, made >= 2
+                    if was == (0, True, True):
+                        break
+                yield f"threads that read {name} and make a network on {len(processors)} processors", (*was, read, made), (0, True, True, read, made)
         write(folder, 30)
         status, count = kept(program, folder)
         yield "threads of a report that is read slowly", (status, count <= 9 or count), (0, True)
