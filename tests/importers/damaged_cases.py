@@ -3,7 +3,7 @@ import os
 import random
 import shutil
 
-from support import ROOT, engine, good, put, ran, there
+from support import ROOT, engine, good, module, put, ran, refused, there
 
 ROUNDS = 40
 PIECES = (b"-", b"9", b"99999999999999999999", b"nan", b"inf", b"1e400", b'"', b",", b"\n", b"\x00", b"<a>", b" ", b"-1", b"0")
@@ -84,6 +84,31 @@ def imports(room):
     yield "how many were tried", len(faults), (7 if there("osmium") else 6) * ROUNDS
 
 
+def limits(room):
+    """As many nodes, arcs and classes as there may be are taken, and one more is refused by a sentence: tried with lower limits."""
+    examples, writing = os.path.join(ROOT, "examples"), module("importing.writing")
+    for name, *words in (
+        ("osm", os.path.join(examples, "osm", "town.osm")), ("gtfs", os.path.join(examples, "transit"), "20261123"),
+        ("sumo", os.path.join(examples, "sumo", "town.net.xml"), "--data", os.path.join(examples, "sumo", "edgedata.xml")), ("functions", os.path.join(examples, "functions", "four.tpgr")),
+    ):
+        words.insert(2 if name == "gtfs" else 1, os.path.join(room, name))
+        good(name, *words)
+        nodes, arcs = next(line.split()[2:] for line in read(room, name + ".gr").decode().splitlines() if line.startswith("p "))
+        most = {"MOST_NODES": int(nodes), "MOST_ARCS": int(arcs)}
+        if os.path.exists(os.path.join(room, name + ".tp")):
+            most["MOST_CLASSES"] = int(next(line.split()[2] for line in read(room, name + ".tp").decode().splitlines() if line.startswith("p ")))
+        for limit, count in most.items():
+            usual = getattr(writing, limit)
+            try:
+                setattr(writing, limit, count)
+                yield f"{name}: as many as {limit}", ran(name, *words).status, 0
+                setattr(writing, limit, count - 1)
+                *told, reason = refused(name, room, *words)
+                yield f"{name}: one more than {limit}", (*told, f"{count} " in reason and f"{count - 1} is the most" in reason), (True, True, [], True)
+            finally:
+                setattr(writing, limit, usual)
+
+
 def reports(room):
     """Reports, tables of nodes, graphs and shapes."""
     examples = os.path.join(ROOT, "examples")
@@ -111,4 +136,4 @@ def reports(room):
     yield "how many were tried", len(faults), 6 * ROUNDS
 
 
-CASES = (imports, reports)
+CASES = (imports, limits, reports)

@@ -661,6 +661,8 @@ def hostile(room):
         ("a date in the calendar that is none", put(room, "f10", {**files, "calendar.txt": files["calendar.txt"].replace("20260101", "2026-1-1")}), [], "2026-1-1"),
         ("a sequence that isn't whole", put(room, "f11", {**files, "stop_times.txt": files["stop_times.txt"].replace(",B,2,", ",B,2.5,")}), [], "'2.5'"),
         ("a sequence beyond 64 bits", put(room, "f12", {**files, "stop_times.txt": files["stop_times.txt"].replace(",B,2,", ",B,99999999999999999999,")}), [], "'99999999999999999999'"),
+        *[(f"a place beyond the limits: {place}", put(room, f"f23-{at}", {**files, "stops.txt": files["stops.txt"].replace(",47.0,8.0", f",{place}", 1)}), [], "is no place") for at, place in enumerate(("90.0001,8.0", "-90.0001,8.0", "47.0,180.0001", "47.0,-180.0001"))],
+        *[(f"a time beyond the limits: {clock}", put(room, f"f24-{at}", {**files, "stop_times.txt": files["stop_times.txt"].replace("7:05:00", clock, 1)}), [], "is no time") for at, clock in enumerate(("7:60:00", "7:05:60", "100001:00:00"))],
         ("a code of boarding that is none", put(room, "f13", {**files, "stop_times.txt": files["stop_times.txt"].replace(",B,2,", ",B,2,7")}), [], "pickup_type"),
         ("a code of a place that is none", put(room, "f14", {**files, "stops.txt": files["stops.txt"].replace("stop_lon", "stop_lon,location_type").replace("8.02\r", "8.02,7\r")}), [], "location_type is '7'"),
         ("a weekday that is neither 0 nor 1", put(room, "f15", {**files, "calendar.txt": files["calendar.txt"].replace("all,1", "all,yes")}), [], "monday is 'yes'"),
@@ -679,6 +681,16 @@ def hostile(room):
         day = words.pop(0) if words and len(words[0]) == 8 and words[0].isdigit() else "20261123"
         *told, reason = refused("gtfs", room, path, day, os.path.join(room, "out"), *words)
         yield f"refused: {name}", (*told, part in reason), (True, True, [], True)
+    # At the limits a place is one.
+    for place in ("90,8.0", "-90,8.0", "47.0,180", "47.0,-180"):
+        good("gtfs", put(room, "poles", {**files, "stops.txt": files["stops.txt"].replace(",47.0,8.0", f",{place}", 1)}), "20261123", os.path.join(room, "pole"))
+        latitude, longitude = map(float, place.split(","))
+        yield f"taken: a place at the limits, {place}", any((float(row["latitude"]), float(row["longitude"])) == (latitude, longitude) for row in table(room, "pole.nodes.csv")), True
+    # A note says that headways are no exact times.
+    for exact in ("", "0", "1"):
+        often = put(room, "often", {**files, "frequencies.txt": f"trip_id,start_time,end_time,headway_secs,exact_times\r\na,7:00:00,8:00:00,600,{exact}\r\n"})
+        told = good("gtfs", often, "20261123", os.path.join(room, "by-headways"))
+        yield f"headways with exact_times {exact!r} are told", summary_has(told, "1 headways without exact times"), exact != "1"
     # Left out one by one, with the rest still taken.
     odd = Feed({"good": ("1", "all", line("A", "B", "C", start=7 * 3600)), "back": ("1", "all", [(1, "A", 9000, 9000, "", ""), (2, "B", 8000, 8000, "", "")]), "one": ("1", "all", [(1, "A", 9000, 9000, "", "")]), "blank": ("1", "all", [(1, "A", None, None, "", ""), (2, "B", 9000, 9000, "", "")]),
                 "none": ("1", "all", line("A", "Z", start=3600)), "closed": ("1", "all", line("A", "B", start=3600, bans={0: (1, 1), 1: (1, 1)})), "double": ("1", "all", [(1, "A", 9000, 9000, "", ""), (1, "B", 9100, 9100, "", "")])})

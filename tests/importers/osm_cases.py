@@ -1,8 +1,10 @@
 """OpenStreetMap: one feature a case, each beside a search over pairs of edges that keeps the roads it came by."""
 import bz2
+import contextlib
 import math
 import os
 import random
+import sys
 from xml.sax.saxutils import quoteattr
 
 from support import arcs, arrivals, distance, good, least, module, places, put, refused, summary_has, table, text, there
@@ -334,6 +336,24 @@ def restrictions_over_ways(room):
     yield "ways that don't join are told", summary_has(told, "don't join into one"), True
 
 
+def values(room):
+    """What a profile makes of durations, and of several values of a tag of access; and settings that it doesn't know."""
+    profile = module("importing.profile")
+    durations = {"45": 45, "0": 0, "1:30": 90, "01:30:30": 90.5, "PT1H30M": 90, "pt20m": 20, "P1DT2H": 1560, "PT30S": 0.5, " 7 ": 7, "P": None, "": None, "1:2:3:4": None, "an hour": None, "-5": None}
+    yield "durations in minutes", {text: profile.minutes_of(text) for text in durations}, durations
+    known = profile.Profile(put(room, "test.ini", PROFILE))
+    access = (
+        ({"motorcar": "delivery;yes"}, True), ({"motorcar": "delivery; no"}, False), ({"motorcar": "delivery;private"}, False), ({"motorcar": "delivery;forestry"}, None), ({}, None),
+        ({"motorcar": "delivery", "vehicle": "no"}, False), ({"motorcar": "delivery;yes", "vehicle": "no"}, True), ({"motorcar": "yes", "access": "no"}, True), ({"access": "private"}, False),
+        ({"motorcar:forward": "no", "motorcar": "yes"}, False), ({"motorcar:backward": "no", "motorcar": "yes"}, True),
+    )
+    yield "several values of access", [(tags, known.allowed(tags, "forward")) for tags, _ in access], list(access)
+    for key in ("implied oneway", "contraflow", "maxspeed", "areas", "ferries"):
+        other = put(room, "other.ini", PROFILE.replace("name = test", f"name = test\n{key} = perhaps"))
+        *told, reason = refused("osm", room, Town(line(2), {1: ([1, 2], {"highway": "residential"})}).write(room), os.path.join(room, "none"), "--profile", other)
+        yield f"refused: a value of {key!r} that is none", (*told, f"{key!r} is 'perhaps'" in reason), (True, True, [], True)
+
+
 def random_towns(room):
     """Grids with one-way streets and restrictions of all kinds at random, from several places each."""
     for seed in range(8):
@@ -467,6 +487,47 @@ def largest_part(room):
     told = imported(room, Town(nodes, ways), "--largest", "--keep-nodes")
     yield "the largest part", sorted(places(room, "town")[0]), ["1", "2", "3", "7"]
     yield "what is outside it is told", [summary_has(told, "3 crossings and ends of ways outside"), summary_has(told, "3 arcs outside")], [True, True]
+
+
+@contextlib.contextmanager
+def no_arrays():
+    """As if NumPy and SciPy weren't there."""
+    network, hidden = module("importing.osm_network"), ("scipy.sparse", "scipy.sparse.csgraph")
+    numpy, known = network.numpy, {name: sys.modules[name] for name in hidden if name in sys.modules}
+    network.numpy = None
+    sys.modules.update(dict.fromkeys(hidden))
+    try:
+        yield
+    finally:
+        network.numpy = numpy
+        for name in hidden:
+            del sys.modules[name]
+        sys.modules.update(known)
+
+
+def without_arrays(room):
+    """The same files without NumPy and SciPy, of streets of which some lead one way, so that there are many parts."""
+    for seed in range(6):
+        draw, side = random.Random(seed), 7
+        nodes = {100 * (row * side + column + 1): (10 + 0.001 * column + 0.0003 * draw.random(), 50 + 0.001 * row) for row in range(side) for column in range(side)}
+        ways, ends = {}, list(nodes)
+        for place, node in enumerate(ends):
+            for other in ([place + 1] if (place + 1) % side else []) + ([place + side] if place + side < len(ends) else []):
+                if draw.random() < 0.6:
+                    ways[len(ways) + 1] = [node, *([9] if draw.random() < 0.1 else []), ends[other]], {"highway": "residential", **({"oneway": draw.choice(("yes", "-1"))} if draw.random() < 0.6 else {})}
+        town = Town(nodes, ways, [rule("no_straight_on", *draw.sample(list(ways), 1), ends[0], 1)])
+        for words in ((), ("--largest",), ("--largest", "--keep-nodes", "--turns")):
+            told = [(imported(room, town, *words, name="with").out.replace("with.", "."), found(room, "with"))]
+            with no_arrays():
+                told.append((imported(room, town, *words, name="without").out.replace("without.", "."), found(room, "without")))
+            yield f"town {seed} without NumPy and SciPy {words}", told[0] == told[1] or [one for one, other in zip(told[0][1], told[1][1]) if one != other] or told, True
+        yield f"town {seed} has several parts", summary_has(imported(room, town, "--largest"), "outside the largest part"), True
+
+
+def found(room, name):
+    """What the files of an importer hold, but for their own names and comments."""
+    ends = (".gr", ".co", ".nodes.csv", ".arcs.csv", ".shapes.csv")
+    return [end + "".join(line for line in text(room, name + end).splitlines(True) if not line.startswith("c")) for end in ends]
 
 
 def places_asked(room):
@@ -610,4 +671,4 @@ def hostile(room):
     yield "refused: a folder to write to that isn't there", (*told, "isn't there" in reason), (True, True, [], True)
 
 
-CASES = (tags_of_speed, directions, bicycles_and_walkers, barriers_and_ferries, chains, rings, restrictions_at_nodes, restrictions_at_joints, restrictions_over_ways, random_towns, turns_in_random_towns, turn_costs, largest_part, places_asked, missing_nodes, readers, odd_xml, unit_and_files, example, hostile)
+CASES = (tags_of_speed, directions, bicycles_and_walkers, barriers_and_ferries, chains, rings, restrictions_at_nodes, restrictions_at_joints, restrictions_over_ways, values, random_towns, turns_in_random_towns, turn_costs, largest_part, without_arrays, places_asked, missing_nodes, readers, odd_xml, unit_and_files, example, hostile)

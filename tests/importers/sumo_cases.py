@@ -261,6 +261,7 @@ def hostile(room):
         ("an interval that ends before it begins", path, ["--data", put(room, "d6.xml", data([(60, 0, {"a": 'speed="1"'})]))], "begins at"),
         ("a vehicle that nobody knows", put(room, "bus.net.xml", net({"e": EDGES["e"]}, [])), ["--vehicle", "tram"], "no edge that a tram"),
         ("a period of nothing", path, ["--period", "0"], "--period"),
+        ("a target without a start", path, ["--to", "a"], "--to needs --from"),
     ):
         *told, reason = refused("sumo", room, file, os.path.join(room, "out"), *words)
         yield f"refused: {name}", (*told, part in reason), (True, True, [], True)
