@@ -36,6 +36,10 @@ def parts(program, room):
     yield "seven parts of a hundred sources", (cut.returncode, cut.stderr, b"".join(reports) == whole, sources), (0, b"", True, [14, 14, 14, 15, 14, 14, 15])
     many = command("parts", "road.ss", "101", room)
     yield "more parts than sources", (many.returncode, many.stderr), (1, b"parts: 100 lines can't be cut into 101 parts\n")
+    late, low = f"parts: the last departure is above {2**48 - 1}\n".encode(), b"parts: --depart and --gap are at least 0\n"
+    for count, depart, gap, why in ((7, 2**48 - 100, 1, b""), (7, 2**48 - 99, 1, late), (1, 2**48 - 1, 0, b""), (1, 2**48, 0, late), (7, 0, 0, b""), (7, -1, 0, low), (7, 0, -1, low), (0, 0, 0, b"parts: 100 lines can't be cut into 0 parts\n")):
+        cut = command("parts", "road.ss", str(count), room, f"--depart={depart}", f"--gap={gap}")
+        yield f"{count} parts from {depart} on, {gap} apart", (cut.returncode, cut.stderr), (1 if why else 0, why)
 
 
 def picture(program, room):
