@@ -91,7 +91,7 @@ pub const FAULTS: [Fault; 19] = [
         number: "13",
         name: "OutOfMemory",
         meaning: "memory was refused",
-        more: "It says nothing of the files. A network takes about 40 bytes an arc, and a search some 30 bytes a node and worker.\nUsual causes: a limit of the shell (ulimit) or of a container; a network larger than the memory.\n\nBefore:  ulimit -v 100000; earliest run roads.gr starts.ss\nAfter:   ulimit -v unlimited; earliest run roads.gr starts.ss\n",
+        more: "It says nothing of the files. A network takes about 30 bytes an arc, and a search some 30 bytes a node and worker.\nUsual causes: a limit of the shell (ulimit) or of a container; a network larger than the memory.\n\nBefore:  ulimit -v 100000; earliest run roads.gr starts.ss\nAfter:   ulimit -v unlimited; earliest run roads.gr starts.ss\n",
     },
     Fault {
         number: "14",
