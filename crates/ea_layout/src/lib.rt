@@ -1,7 +1,7 @@
 //! A network whose nodes are renumbered so that neighbours are near, and searches on it in the original numbers.
 #![tactic(auto)]
 
-mod depth_first;
+mod clusters;
 mod given_order;
 mod laid_query;
 mod laid_search;

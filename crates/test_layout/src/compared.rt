@@ -1,5 +1,6 @@
 //! Answers on a layout, compared with those of plain searches.
-ghost use Rattle.ea_layout.specs.Laid.{IsPreparedLaid};
+ghost use Rattle.std.specs.Prelude.{◌≡◌, IfOk, true};
+ghost use Rattle.ea_layout.specs.Laid.{CanFindLaid, IsPreparedLaid};
 ghost use Rattle.ea_layout.specs.Orders.{LaysOut};
 ghost use Rattle.ea_road.specs.Queries.{IsProblem};
 
@@ -86,6 +87,64 @@ fn compare_with_plain<T: TravelTimes>(
     compare(alloc, search.answer(), laid, count)
 }
 
+/// Finds walks on a layout, and compares them with those of a plain search.
+fn compare_walks<T: TravelTimes>(
+    alloc: Global,
+    network: &Network,
+    layout: &Layout,
+    times: &T,
+    query: &Query,
+    laid: LaidSearch,
+    count: &mut Count,
+) -> Result<LaidSearch, AllocError>
+    requires can { CanFindLaid network.now (T.answers times.now) layout.now (T.classes times.now)
+        query.now laid }
+    requires walks { laid.walks ≡ true }
+    ensures { IfOk result (λ found. (found.nodes ≡ laid.nodes) × (found.walks ≡ true)) }
+{
+    let found = laid.find_walks(alloc, network, layout, times, query)?;
+    compare_with_plain(alloc, network, times, query, found.answer(), count)?;
+    Ok(found)
+}
+
+/// The same without walks.
+fn compare_without<T: TravelTimes>(
+    alloc: Global,
+    network: &Network,
+    layout: &Layout,
+    times: &T,
+    query: &Query,
+    laid: LaidSearch,
+    count: &mut Count,
+) -> Result<LaidSearch, AllocError>
+    requires { CanFindLaid network.now (T.answers times.now) layout.now (T.classes times.now)
+        query.now laid }
+    ensures { IfOk result (λ found. (found.nodes ≡ laid.nodes) × (found.walks ≡ laid.walks)) }
+{
+    let found = laid.find_arrivals(alloc, network, layout, times, query)?;
+    compare_with_plain(alloc, network, times, query, found.answer(), count)?;
+    Ok(found)
+}
+
+/// The same as far as there is room.
+fn compare_found<T: TravelTimes>(
+    alloc: Global,
+    network: &Network,
+    layout: &Layout,
+    times: &T,
+    query: &Query,
+    laid: LaidSearch,
+    count: &mut Count,
+) -> Result<LaidSearch, AllocError>
+    requires { CanFindLaid network.now (T.answers times.now) layout.now (T.classes times.now)
+        query.now laid }
+    ensures { IfOk result (λ found. (found.nodes ≡ laid.nodes) × (found.walks ≡ laid.walks)) }
+{
+    let found = laid.find(alloc, network, layout, times, query);
+    compare_with_plain(alloc, network, times, query, found.answer(), count)?;
+    Ok(found)
+}
+
 /// Two queries in turn on the same arrays, with walks and without, on a layout.
 fn compare_on<T: TravelTimes>(
     alloc: Global,
@@ -102,21 +161,16 @@ fn compare_on<T: TravelTimes>(
     requires second { IsProblem network.now (T.classes times.now) second.now }
 {
     let laid = LaidSearch::reserve(alloc, network.nodes())?;
-    let laid = laid.find_walks(alloc, network, layout, times, first)?;
-    compare_with_plain(alloc, network, times, first, laid.answer(), count)?;
-    let laid = laid.find_walks(alloc, network, layout, times, second)?;
-    compare_with_plain(alloc, network, times, second, laid.answer(), count)?;
-    let laid = laid.find_arrivals(alloc, network, layout, times, first)?;
-    compare_with_plain(alloc, network, times, first, laid.answer(), count)?;
-    let laid = laid.find_arrivals(alloc, network, layout, times, second)?;
-    compare_with_plain(alloc, network, times, second, laid.answer(), count)?;
-    let laid = laid.find_walks(alloc, network, layout, times, second)?;
-    compare_with_plain(alloc, network, times, second, laid.answer(), count)?;
-    let laid = laid.find(alloc, network, layout, times, first);
-    compare_with_plain(alloc, network, times, first, laid.answer(), count)
+    let laid = compare_walks(alloc, network, layout, times, first, laid, count)?;
+    let laid = compare_walks(alloc, network, layout, times, second, laid, count)?;
+    let laid = compare_without(alloc, network, layout, times, first, laid, count)?;
+    let laid = compare_without(alloc, network, layout, times, second, laid, count)?;
+    let laid = compare_walks(alloc, network, layout, times, second, laid, count)?;
+    compare_found(alloc, network, layout, times, first, laid, count)?;
+    Ok(())
 }
 
-/// The same on a layout in depth-first order, and on a prepared one.
+/// The same on a layout in clusters, and on a prepared one.
 pub fn compare_in_turn<T: TravelTimes>(
     alloc: Global,
     network: &Network,
@@ -155,19 +209,15 @@ fn compare_arrivals_on<T: TravelTimes>(
     requires second { IsProblem network.now (T.classes times.now) second.now }
 {
     let laid = LaidSearch::reserve_without_walks(alloc, network.nodes())?;
-    let laid = laid.find_arrivals(alloc, network, layout, times, second)?;
-    compare_with_plain(alloc, network, times, second, laid.answer(), count)?;
-    let laid = laid.find_arrivals(alloc, network, layout, times, first)?;
-    compare_with_plain(alloc, network, times, first, laid.answer(), count)?;
-    let laid = laid.find_arrivals(alloc, network, layout, times, second)?;
-    compare_with_plain(alloc, network, times, second, laid.answer(), count)?;
-    let laid = laid.find(alloc, network, layout, times, first);
-    compare_with_plain(alloc, network, times, first, laid.answer(), count)?;
-    let laid = laid.find(alloc, network, layout, times, second);
-    compare_with_plain(alloc, network, times, second, laid.answer(), count)
+    let laid = compare_without(alloc, network, layout, times, second, laid, count)?;
+    let laid = compare_without(alloc, network, layout, times, first, laid, count)?;
+    let laid = compare_without(alloc, network, layout, times, second, laid, count)?;
+    let laid = compare_found(alloc, network, layout, times, first, laid, count)?;
+    compare_found(alloc, network, layout, times, second, laid, count)?;
+    Ok(())
 }
 
-/// The same on a layout in depth-first order, and on a prepared one, unless the network isn't worth it.
+/// The same on a layout in clusters, and on a prepared one, unless the network isn't worth it.
 pub fn compare_arrivals<T: TravelTimes>(
     alloc: Global,
     network: &Network,
