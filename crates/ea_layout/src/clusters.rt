@@ -78,6 +78,7 @@ impl Clusters {
                 return Ok(());
             };
             let arcs = arcs_from(network, *node);
+            // What was prefetched is looked at here, or the loads would be left out.
             let is_full = self.nodes.len().saturating_sub(begin) >= CLUSTER
                 || self.seen == u32::MAX;
             self.touch(network, place);
