@@ -115,8 +115,7 @@ def numbers_in_prose():
     read."""
     known = {name: value for name, (_, value) in constants().items()}
     starts = {known[name] for name in ("FEW_NODES", "FEW_FOR_TWO", "MANY_NODES", "MANY_FOR_TWO")}
-    # One thread takes the bytes while others read, as many as `read_four` has pieces.
-    readers = {"five", "5", str(known["MOST_READERS"])}
+    readers = {"eight", str(known["MOST_OTHERS"] + 1), str(known["MOST_READERS"])}
     units = {"MB": 10**6, "MiB": 2**20, "KiB": 2**10, "KB": 10**3}
     seen = {"nodes": 0, "reports": 0, "threads": 0}
     for page in PAGES:

@@ -1,4 +1,6 @@
 pub mod Taken
+pub mod Rows
+pub mod Onward
 pub mod Steps
 pub mod Cuts
 pub mod Joined

@@ -1,5 +1,5 @@
 -- A device's text that is read block by block.
-use Rattle.std.proofs.Common.{◌≡◌, ℕ, ◌<◌, List, [], ◌++◌, length, length-append, append_assoc, ap, sym, ◌∙◌, subst, refl, arith}
+use Rattle.std.proofs.Common.{◌≡◌, Bool, true, false, if◌then◌else◌, ℕ, ◌+◌, ◌<◌, ◌≤◌, List, [], ◌++◌, length, length-append, append_assoc, ap, sym, ◌∙◌, subst, refl, arith}
 use Rattle.std.specs.Prelude.{IfSome, Option, None}
 use Rattle.std.specs.Io.KnownBytes.{IsAtEnd}
 use Rattle.ea_bytes.specs.Device.{Seen}
@@ -26,7 +26,37 @@ pub begun : {S : Type 0} (step : Step S) (start : S) (limit : ℕ) (first now : 
 begun step start limit first now blocks after none block empty new goes =
     ([], nothing_ends, nothing_fed step start, omega arith, from_start limit first now blocks.left blocks.interruptions after.left after.interruptions none block empty goes new)
 
--- The lines of a block are read, and the next block is filled.
+-- The same of a reader for which nothing waits.
+pub begun_with : {S : Type 0} (step : Step S) (start : S) (limit : ℕ) (first now : Seen) (after : Blocks) (waiting block : List ℕ) (other : S) (lines : ℕ) (fault : Option InputFault)
+    → waiting ≡ [] → other ≡ start → lines ≡ 0 → fault ≡ None → IsUnderway step start limit first now start 0 None after block → IsUnderway step start limit first now other lines fault after (waiting ++ block)
+begun_with step start limit first now after waiting block other lines fault none same zero sound is =
+    subst (λ w. IsUnderway step start limit first now other lines fault after (w ++ block)) (sym none)
+    (subst (λ s. IsUnderway step start limit first now s lines fault after block) (sym same)
+    (subst (λ n. IsUnderway step start limit first now start n fault after block) (sym zero)
+    (subst (λ f. IsUnderway step start limit first now start 0 f after block) (sym sound) is)))
+
+-- Fewer bytes are left for a block that is not the last, and a block that is the last comes once.
+pub smaller : (ended now : Bool) (left after tail grown size : ℕ) → ended ≡ false → grown + after ≡ tail + left → (now ≡ false → size ≤ grown) → tail < size → tail ≤ grown
+    → after + (if now then 0 else 1) < left + (if ended then 0 else 1)
+smaller true now left after tail grown size e total full short low = cc
+smaller false true left after tail grown size e total full short low = omega (arith, total, low)
+smaller false false left after tail grown size e total full short low = omega (arith, total, full refl, short)
+
+-- What waits, the lines of a block and what follows them are the lines that are given, those that wait then, and what follows.
+pub block_cut : (waiting block lines tail front left : List ℕ) → block ≡ lines ++ tail → waiting ++ lines ≡ front ++ left → waiting ++ block ≡ front ++ (left ++ tail)
+block_cut waiting block lines tail front left cut given =
+    ap (λ l. waiting ++ l) cut ∙ sym (append_assoc waiting lines tail) ∙ ap (λ l. l ++ tail) given ∙ append_assoc front left tail
+
+-- Bytes are taken behind others.
+pub taken_behind : (old new : Seen) (blocks after : Blocks) (front block grown : List ℕ) → GoesOnTaking old blocks new after block grown → GoesOnTaking old blocks new after (front ++ block) (front ++ grown)
+taken_behind old new blocks after front block grown goes = (goes.0, ap (λ l. front ++ l) goes.1 ∙ sym (append_assoc front block goes.0), goes.2)
+
+-- The lines of what is at hand can be counted.
+pub few_lines : {S : Type 0} (step : Step S) (start : S) (limit : ℕ) (first now : Seen) (state : S) (lines : ℕ) (fault : Option InputFault) (blocks : Blocks) (hand : List ℕ)
+    → IsUnderway step start limit first now state lines fault blocks hand → lines + length hand ≤ limit
+few_lines step start limit first now state lines fault blocks hand is = omega (arith, is.3, is.4.within, length-append is.0 hand)
+
+-- Some of what is at hand is given to a reader, and more bytes are taken.
 pub went_on : {S : Type 0} (step : Step S) (start : S) (limit : ℕ) (first now next : Seen) (state last : S) (lines count : ℕ) (fault known : Option InputFault) (blocks after : Blocks) (block front rest grown kept : List ℕ)
     → IsUnderway step start limit first now state lines fault blocks block → EndsLine front → block ≡ front ++ rest → FeedsOn step state lines fault last count known front
     → GoesOnTaking now blocks next after rest grown → kept ≡ grown → IsUnderway step start limit first next last count known after kept

@@ -6,3 +6,4 @@ pub mod Borrowed
 pub mod FaultNames
 pub mod Streams
 pub mod Pieces
+pub mod Feeding

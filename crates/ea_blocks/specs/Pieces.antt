@@ -1,53 +1,9 @@
 -- Texts that are read in pieces.
-use Rattle.std.specs.Prelude.{◌≡◌, ℕ, ◌+◌, ◌<◌, ◌^◌, ◌++◌, List, Bool, true, false, Result, Ok, length}
-use Rattle.ea_bytes.specs.Text.{lines_of}
+use Rattle.std.specs.Prelude.{◌≡◌, ℕ, ◌<◌, ◌≤◌, List, [], Bool, true, false, Result, Ok, length, slice_index_or, slice_range}
 use Rattle.ea_blocks.specs.Reading.{ReadsAll, lines_after}
 use Rattle.ea_blocks.specs.declared.fault.FaultKind.{FaultKind}
-use Rattle.ea_blocks.specs.declared.fault.InputFault.{InputFault}
-
--- A text was cut after a line.
-pub record IsCutInto (text front back : List ℕ) : Type 0 where
-  pub lines : lines_of text ≡ lines_of front ++ lines_of back
-  pub whole : text ≡ front ++ back
-
--- The lines of a text can be counted after those before it, and other work may be done beside.
-pub record CanReadBeside (before : ℕ) (text : List ℕ) (MayWork : Type 0) : Type 0 where
-  pub few : before + length text < 2 ^ 64
-  pub work : MayWork
-
--- The same for a text in two parts.
-pub record CanReadHalves (before : ℕ) (front back : List ℕ) (MayWork : Type 0) : Type 0 where
-  pub front_first : CanReadBeside before front MayWork
-  pub few : length back < 2 ^ 64
-
--- All lines of a text were read, and other work was done.
-pub record ReadsBeside
-    {S T : Type 0}
-    (step : S → List (List ℕ) → Result S FaultKind)
-    (state : T → S)
-    (before : ℕ)
-    (old new : T)
-    (text : List ℕ)
-    (result : Result ℕ InputFault)
-    (Works : Type 0)
-    : Type 0 where
-  pub read : ReadsAll step state before old new text result
-  pub beside : Works
-
--- All lines of a text in two parts were read, the back by a separate reader, and other work was done.
-pub record ReadsHalves
-    {S T : Type 0}
-    (step : S → List (List ℕ) → Result S FaultKind)
-    (state : T → S)
-    (before : ℕ)
-    (front back : List ℕ)
-    (old new old_aside new_aside : T)
-    (of_front of_back : Result ℕ InputFault)
-    (Works : Type 0)
-    : Type 0 where
-  pub read : ReadsAll step state before old new front of_front
-  pub aside : ReadsAll step state 0 old_aside new_aside back of_back
-  pub beside : Works
+use Rattle.ea_blocks.specs.declared.pieces.Lane.{Lane}
+use Rattle.ea_blocks.specs.declared.pieces.ReadPiece.{ReadPiece}
 
 -- What a separate reader read was appended, as if its lines had been read here. Otherwise nothing changed.
 abbrev pub IsTakenUp : {S T : Type 0} → (S → List (List ℕ) → Result S FaultKind) → (T → S) → (T → Type 0) → T → T → T → Bool → Type 0
@@ -55,3 +11,37 @@ IsTakenUp {S} {T} step state IsAside before aside after true =
     (start : T) (n m : ℕ) (lines : List (List (List ℕ))) → IsAside start → lines_after step n (state start) lines ≡ Ok (state aside)
     → lines_after step m (state before) lines ≡ Ok (state after)
 IsTakenUp step state IsAside before aside after false = state after ≡ state before
+
+-- A separate reader read the lines of a piece of a text, from one place of the text to another.
+pub record WasRead {S T X : Type 0} (step : S → List (List ℕ) → Result S FaultKind) (state : T → S) (IsAside : T → Type 0) (text : List ℕ) (piece : ReadPiece T X) : Type 0 where
+  pub some : piece.from < piece.to
+  pub inside : piece.to ≤ length text
+  pub start : T
+  pub aside : IsAside start
+  pub read : ReadsAll step state 0 start piece.reader (slice_range text piece.from piece.to) piece.read
+
+-- The same of each piece.
+abbrev pub AreRead : {S T X : Type 0} → (S → List (List ℕ) → Result S FaultKind) → (T → S) → (T → Type 0) → List ℕ → List (ReadPiece T X) → Type 0
+AreRead {S} {T} {X} step state IsAside text pieces = (place : ℕ) (d : ReadPiece T X) → place < length pieces → WasRead step state IsAside text (slice_index_or pieces place d)
+
+-- Each reader may begin a later piece.
+abbrev pub AreAside : {T : Type 0} → (T → Type 0) → List T → Type 0
+AreAside {T} IsAside readers = (place : ℕ) (d : T) → place < length readers → IsAside (slice_index_or readers place d)
+
+-- What a thread reads with may begin later pieces, and what it read are pieces of a text.
+pub record IsLaneOn {S T X : Type 0} (step : S → List (List ℕ) → Result S FaultKind) (state : T → S) (IsAside : T → Type 0) (text : List ℕ) (lane : Lane T X) : Type 0 where
+  pub fresh : AreAside IsAside lane.fresh.items
+  pub read : AreRead step state IsAside text lane.read.items
+
+-- The same of several threads.
+abbrev pub AreLanesOn : {S T X : Type 0} → (S → List (List ℕ) → Result S FaultKind) → (T → S) → (T → Type 0) → List ℕ → List (Lane T X) → Type 0
+AreLanesOn {S} {T} {X} step state IsAside text lanes = (place : ℕ) (d : Lane T X) → place < length lanes → IsLaneOn step state IsAside text (slice_index_or lanes place d)
+
+-- A thread may read pieces of any text: it has none yet.
+pub record IsIdle {T X : Type 0} (IsAside : T → Type 0) (lane : Lane T X) : Type 0 where
+  pub fresh : AreAside IsAside lane.fresh.items
+  pub none : lane.read.items ≡ []
+
+-- The same of several threads.
+abbrev pub AreIdleIn : {T X : Type 0} → (T → Type 0) → List (Lane T X) → Type 0
+AreIdleIn {T} {X} IsAside lanes = (place : ℕ) (d : Lane T X) → place < length lanes → IsIdle IsAside (slice_index_or lanes place d)

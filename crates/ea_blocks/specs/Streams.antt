@@ -53,7 +53,7 @@ pub record IsFilled (size : ℕ) (old : Seen) (blocks : Blocks) (new : Seen) (af
   pub end : IfOk result (λ ended. ended ≡ true → IsAtEnd new.bytes)
   pub fault : IfErr result (StopsTaking old blocks new)
 
--- A device is read up to here: the lines of these bytes, and a block with what follows them.
+-- A device is read up to here: a reader was given the lines of these bytes, and what follows them is at hand.
 abbrev pub IsUnderway : {S : Type 0} → (S → List (List ℕ) → Result S FaultKind) → S → ℕ → Seen → Seen → S → ℕ → Option InputFault → Blocks → List ℕ → Type 0
 IsUnderway step start limit first now state lines fault blocks block =
     (before : List ℕ) × EndsLine before × HasFed step start before state lines fault × (lines ≤ length before) × IsTakenBy blocks limit first now (before ++ block)

@@ -3,6 +3,7 @@
 
 mod blocks;
 mod fault;
+mod feed;
 mod line_reader;
 mod pieces;
 mod reading_plan;

@@ -12,18 +12,18 @@ pub struct Way {
     pub threads: usize,
     /// The length of a block in bytes, at least 1. Two blocks are in memory at a time.
     pub size: usize,
-    /// The fewest bytes that two threads read; three or four threads read at least eight times as many.
-    pub least: usize,
+    /// About how many bytes a thread reads at a time. One thread reads less than twice as many.
+    pub piece: usize,
 }
 
 /// The length of a block that one thread fills and reads.
 const BLOCK: usize = 1_048_576;
 
 /// The length of a block that is read while the next one is filled.
-const LARGE_BLOCK: usize = 4_194_304;
+const LARGE_BLOCK: usize = 2_097_152;
 
-/// The fewest bytes that two threads read.
-const LEAST_OF_TWO: usize = 65_536;
+/// About how many bytes a thread reads at a time.
+const PIECE_BYTES: usize = 65_536;
 
 /// How a device is read by this number of threads.
 pub fn way_of(alloc: Global, threads: usize) -> Way
@@ -34,6 +34,6 @@ pub fn way_of(alloc: Global, threads: usize) -> Way
         alloc,
         threads,
         size,
-        least: LEAST_OF_TWO,
+        piece: PIECE_BYTES,
     }
 }

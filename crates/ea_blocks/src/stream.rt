@@ -1,14 +1,16 @@
 //! Reading the texts of devices line by line as their bytes come, so that no text is in memory whole: while
 //! the lines of a block are read, the next block is filled.
 ghost use Rattle.std.specs.Prelude.{◌≡◌, ◌<◌, ◌+◌, ◌^◌, ◌++◌, IfSome, length};
-ghost use Rattle.ea_blocks.specs.Pieces.{CanReadBeside};
+ghost use Rattle.ea_blocks.specs.Pieces.{AreIdleIn};
 ghost use Rattle.ea_blocks.specs.Reading.{text_after};
-ghost use Rattle.ea_blocks.specs.Streams.{EndsLine, FeedsOn, Finishes, GivesWhole, IsFilled};
+ghost use Rattle.ea_blocks.specs.Streams.{EndsLine, GivesWhole, IsFilled};
+ghost use Rattle.ea_blocks.specs.Feeding.{CanTakeBlock, TakesBlock};
 ghost use Rattle.ea_blocks.specs.Taking.{HasRoom};
 
 use crate::blocks::{Blocks, ReadFault};
-use crate::fault::{InputFault, fault_in};
-use crate::pieces::{BlockReader, end_of_lines, read_more};
+use crate::fault::InputFault;
+use crate::feed::Feed;
+use crate::pieces::{BlockReader, Lane, end_of_lines, other_lanes};
 use crate::reading_plan::Way;
 use ea_bytes::ByteIn;
 use std::alloc::Global;
@@ -25,53 +27,6 @@ pub enum StreamFault {
     /// Its text has a fault, or memory was refused while it was read.
     #[error("{0}")]
     Input(InputFault),
-}
-
-/// A reader of lines, the number of lines that it got, and their first fault.
-#[derive(Drop)]
-pub struct Feed<R: BlockReader> {
-    reader: R,
-    lines: u64,
-    fault: Option<InputFault>,
-}
-
-impl<R: BlockReader> Feed<R> {
-    /// Gives the reader the lines of one more text, if those before it have no fault, and does other work.
-    fn take<H: Threads + Sync, X, B: FnMut() -> X>(
-        &mut self,
-        rt: &H,
-        way: Way,
-        text: &[u8],
-        beside: &mut B,
-    ) -> X
-        requires { CanReadBeside self.old.lines text.now (B.pre beside.old) }
-        ensures fed { FeedsOn R.step (R.state self.old.reader) self.old.lines self.old.fault
-            (R.state self.new.reader) self.new.lines self.new.fault text.entry.now }
-        ensures beside { B.step beside.old result beside.new }
-    {
-        if self.fault.is_some() {
-            return beside();
-        }
-        let (read, gave) = read_more(rt, way, &mut self.reader, self.lines, text, beside);
-        match read {
-            Ok(lines) => self.lines = lines,
-            Err(fault) => self.fault = Some(fault),
-        }
-        gave
-    }
-
-    /// The result if the lines so far are all.
-    fn finish(self) -> Result<R::Text, InputFault>
-        ensures { Finishes R.step R.end R.view (R.state self.reader) self.lines self.fault result }
-    {
-        if let Some(fault) = self.fault {
-            return Err(fault);
-        }
-        match self.reader.finish() {
-            Ok(read) => Ok(read),
-            Err(kind) => Err(fault_in(0, kind)),
-        }
-    }
 }
 
 /// The length of the first block. One thread reads it: two need to know what its first lines announce.
@@ -91,21 +46,23 @@ fn fill<D: ByteIn>(
     blocks.fill(device, block, size)
 }
 
-/// Gives lines to a reader, and fills a block with what follows them, at the same time if there are several
+/// Takes the lines of a block, and fills a block with what follows them, at the same time if there are several
 /// threads. Returns whether the device ended.
 fn go_on<H: Threads + Sync, R: BlockReader, D: ByteIn>(
     rt: &H,
     way: Way,
     feed: &mut Feed<R>,
-    lines: &[u8],
+    others: &mut [Lane<R>],
+    lines: &mut Vec<u8>,
     blocks: &mut Blocks,
     device: &mut D,
     block: &mut Vec<u8>,
 ) -> Result<bool, ReadFault>
-    requires few { feed.old.lines + length lines.now < 2 ^ 64 }
+    requires can { CanTakeBlock R.step R.state R.IsAside feed.old lines.old.items }
+    requires idle { AreIdleIn R.IsAside others.old }
     requires room { HasRoom blocks.old }
-    ensures fed { FeedsOn R.step (R.state feed.old.reader) feed.old.lines feed.old.fault
-        (R.state feed.new.reader) feed.new.lines feed.new.fault lines.entry.now }
+    ensures takes { TakesBlock R.step R.state R.IsAside feed.old feed.new lines.old.items }
+    ensures idle { AreIdleIn R.IsAside others.new }
     ensures filled { IsFilled way.size (D.seen device.old) blocks.old (D.seen device.new) blocks.new
         block.old.items block.new.items result }
 {
@@ -116,19 +73,21 @@ fn go_on<H: Threads + Sync, R: BlockReader, D: ByteIn>(
             (D.seen device.exit.now) blocks.exit.now
             block.entry.now.items block.exit.now.items result }
     { fill(device, blocks, block, size) };
-    feed.take(rt, way, lines, &mut filling)
+    feed.take_block(rt, way, others, lines, &mut filling)
 }
 
-/// The lines of a block. Copies what follows the last line feed to the block after it; none if memory was
-/// refused.
-fn lines_and_rest<'a>(block: &'a [u8], next: &mut Vec<u8>) -> Option<&'a [u8]>
-    ensures { IfSome result
-        (λ lines. EndsLine lines.now × (block.entry.now ≡ lines.now ++ next.new.items)) }
+/// Cuts a block behind its last line feed. Copies what follows to the block after it; none if memory was refused.
+fn keep_lines(block: &mut Vec<u8>, next: &mut Vec<u8>) -> Option<()>
+    ensures { IfSome result (λ _. EndsLine block.new.items
+        × (block.old.items ≡ block.new.items ++ next.new.items)) }
 {
-    let (lines, rest) = block.split_at(end_of_lines(block));
+    let end = end_of_lines(block);
     next.clear();
-    match next.extend_from_slice(rest) {
-        Ok(()) => Some(lines),
+    match next.extend_from_slice(&block[end..]) {
+        Ok(()) => {
+            block.truncate(end);
+            Some(())
+        }
         Err(_) => None,
     }
 }
@@ -149,11 +108,10 @@ pub fn read_device<H: Threads + Sync, R: BlockReader, D: ByteIn>(
     let Ok(mut blocks) = Blocks::new(alloc, limit) else {
         return Err(StreamFault::Read(ReadFault::OutOfMemory));
     };
-    let mut feed = Feed {
-        reader: start,
-        lines: 0,
-        fault: None,
+    let Ok(mut others) = other_lanes(alloc, way.threads) else {
+        return Err(StreamFault::Read(ReadFault::OutOfMemory));
     };
+    let mut feed = Feed::new(alloc, start);
     let mut block = Vec::new(alloc);
     let mut next = Vec::new(alloc);
     let mut ended = match fill(device, &mut blocks, &mut block, way.size.min(FIRST_BLOCK)) {
@@ -161,7 +119,7 @@ pub fn read_device<H: Threads + Sync, R: BlockReader, D: ByteIn>(
         Err(fault) => return Err(StreamFault::Read(fault)),
     };
     while !ended {
-        let Some(lines) = lines_and_rest(&block, &mut next) else {
+        let Some(()) = keep_lines(&mut block, &mut next) else {
             return Err(StreamFault::Read(ReadFault::OutOfMemory));
         };
         // A line longer than a block makes longer blocks.
@@ -169,15 +127,30 @@ pub fn read_device<H: Threads + Sync, R: BlockReader, D: ByteIn>(
             size: next.len().saturating_mul(2).max(way.size),
             ..way
         };
-        ended = match go_on(rt, wanted, &mut feed, lines, &mut blocks, device, &mut next) {
+        ended = match go_on(
+            rt,
+            wanted,
+            &mut feed,
+            &mut others,
+            &mut block,
+            &mut blocks,
+            device,
+            &mut next,
+        ) {
             Ok(ended) => ended,
             Err(fault) => return Err(StreamFault::Read(fault)),
         };
         mem::swap(&mut block, &mut next);
     }
+    let Some(()) = keep_lines(&mut block, &mut next) else {
+        return Err(StreamFault::Read(ReadFault::OutOfMemory));
+    };
     let mut nothing = || {};
-    feed.take(rt, way, &block, &mut nothing);
-    match feed.finish() {
+    feed.take_block(rt, way, &mut others, &mut block, &mut nothing);
+    feed.settle(alloc);
+    let mut fed = feed.fed;
+    fed.take(alloc, &next);
+    match fed.finish() {
         Ok(read) => Ok(read),
         Err(fault) => Err(StreamFault::Input(fault)),
     }

@@ -1,10 +1,10 @@
 //! Each part of a slice in a separate thread, and other work in this one.
-ghost use Rattle.std.specs.Prelude.{◌≡◌, ◌<◌, length};
+ghost use Rattle.std.specs.Prelude.{◌≡◌, ◌<◌, length, slice_index_or};
 ghost use denote.Param.Send.{IsSend, IsSync};
-ghost use Rattle.std.specs.Fork.{AcceptsAt, AcceptsChunksMut, AllInChunks, ChangesAt, ChangesChunks};
+ghost use Rattle.std.specs.Fork.{AcceptsAt, AcceptsChunksMut, AcceptsEach, AllInChunks, ChangesAt, ChangesChunks, ChangesEach};
 ghost use Rattle.std.specs.Fork.Halves.{ChangesByChunks, IsChunked};
 
-use crate::rows::parts_from;
+use crate::rows::{at_one, parts_from};
 use std::thread::{Threads, join_mut};
 
 /// Calls f(start, part) for each part of `size` elements of a slice, the last one maybe shorter, each in a
@@ -126,4 +126,27 @@ fn first_beside_rest<R: Threads + Sync, T: Send, F: Fn(usize, &mut [T]) + Sync, 
     { parts_beside(rt, f, next, size, left, rest, beside) };
     let (_, gave) = join_mut(rt, &mut starting, &mut going_on);
     gave
+}
+
+/// Calls f(i, &mut row[i]) for each element of a slice, each in a separate thread if one can be started, while this
+/// thread does other work. Returns the result of that work. There should be as few elements as threads to use.
+pub fn for_each_mut_beside<
+    R: Threads + Sync,
+    T: Send,
+    F: Fn(usize, &mut T) + Sync,
+    X,
+    B: FnMut() -> X,
+>(rt: &R, f: &F, row: &mut [T], beside: &mut B) -> X
+    requires accepts { AcceptsEach F.Fn f.now row.old }
+    requires beside { B.pre beside.old }
+    ensures row { ChangesEach F.Fn f.now row.old row.new }
+    ensures beside { B.step beside.old result beside.new }
+{
+    let at_part = move |start: usize, part: &mut [T]|
+        requires { (length part.now ≡ 1)
+            × ((d : T) → AcceptsAt F.Fn f.now start (slice_index_or part.now 0 d)) }
+        ensures { (d : T) → ChangesAt F.Fn f.entry.now start
+            (slice_index_or part.entry.now 0 d) (slice_index_or part.exit.now 0 d) }
+    { at_one(f, start, part) };
+    for_each_chunk_mut_beside(rt, 1, &at_part, row, beside)
 }

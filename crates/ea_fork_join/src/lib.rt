@@ -8,7 +8,7 @@
 mod beside_join;
 mod rows;
 
-pub use beside_join::for_each_chunk_mut_beside;
+pub use beside_join::{for_each_chunk_mut_beside, for_each_mut_beside};
 pub use rows::for_each_mut;
 
 /// The most threads that `for_each_mut` starts.

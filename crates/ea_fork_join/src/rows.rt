@@ -27,7 +27,7 @@ fn for_each_chunk_mut<R: Threads + Sync, T: Send, F: Fn(usize, &mut [T]) + Sync>
 }
 
 /// Calls f for a part of one element.
-fn at_one<T, F: Fn(usize, &mut T)>(f: &F, start: usize, part: &mut [T])
+pub(crate) fn at_one<T, F: Fn(usize, &mut T)>(f: &F, start: usize, part: &mut [T])
     requires one { length part.old ≡ 1 }
     requires accepts { (d : T) → AcceptsAt F.Fn f.now start (slice_index_or part.old 0 d) }
     ensures { (d : T) → ChangesAt F.Fn f.now start (slice_index_or part.old 0 d) (slice_index_or part.new 0 d) }

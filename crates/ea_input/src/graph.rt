@@ -178,12 +178,8 @@ fn graph_line(
 pub(crate) struct GraphReader {
     pub size: Option<GraphSize>,
     pub arcs: Vec<RawArc>,
-    /// Room for the arcs of a piece that another thread reads.
-    pub spare: Vec<RawArc>,
-    /// The same of a piece of what this reader reads next.
-    pub spare_here: Vec<RawArc>,
-    /// The same of a piece of what the other thread reads.
-    pub spare_there: Vec<RawArc>,
+    /// Room for the arcs of pieces that other threads read.
+    pub spares: Vec<Vec<RawArc>>,
 }
 
 impl GraphReader {
@@ -263,9 +259,7 @@ pub(crate) fn start(alloc: Global) -> GraphReader
     GraphReader {
         size: None,
         arcs: Vec::new(alloc),
-        spare: Vec::new(alloc),
-        spare_here: Vec::new(alloc),
-        spare_there: Vec::new(alloc),
+        spares: Vec::new(alloc),
     }
 }
 

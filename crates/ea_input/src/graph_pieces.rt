@@ -6,7 +6,6 @@ ghost use Rattle.ea_input.specs.Views.{read_of};
 use crate::graph::GraphReader;
 use ea_blocks::BlockReader;
 use std::alloc::Global;
-use std::mem;
 
 /// Puts the arcs of a reader aside behind those of another, if both have as many nodes and no more arcs come together than are
 /// announced. Returns whether they are put there.
@@ -27,8 +26,8 @@ fn append(reader: &mut GraphReader, aside: GraphReader) -> bool
     }
     match reader.arcs.append(&mut more) {
         Ok(()) => {
-            reader.spare_here = mem::replace(&mut reader.spare, more);
-            reader.spare_there = aside.spare;
+            // Room that can't be kept is given back.
+            let _ = reader.spares.push(more);
             true
         }
         Err(_) => false,
@@ -40,15 +39,15 @@ impl BlockReader for GraphReader {
 
     fn aside(&mut self, alloc: Global) -> Option<GraphReader> {
         let size = self.size?;
-        let here = mem::replace(&mut self.spare_here, Vec::new(alloc));
-        let mut arcs = mem::replace(&mut self.spare, here);
+        let mut arcs = match self.spares.pop() {
+            Some(spare) => spare,
+            None => Vec::new(alloc),
+        };
         arcs.clear();
         Some(GraphReader {
             size: Some(size),
             arcs,
-            spare: mem::replace(&mut self.spare_there, Vec::new(alloc)),
-            spare_here: Vec::new(alloc),
-            spare_there: Vec::new(alloc),
+            spares: Vec::new(alloc),
         })
     }
 

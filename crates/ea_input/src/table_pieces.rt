@@ -7,7 +7,6 @@ use crate::timetable::TableReader;
 use ea_base::{MOST_ARCS, RawTable};
 use ea_blocks::BlockReader;
 use std::alloc::Global;
-use std::mem;
 
 /// Puts the assignments of a reader aside behind those of another, if it read nothing else, both number arcs and kinds alike, no step is due,
 /// and no more assignments come together than are announced. Returns whether they are put there.
@@ -35,8 +34,8 @@ fn append(reader: &mut TableReader, aside: TableReader) -> bool
     }
     match reader.table.assigned.append(&mut more) {
         Ok(()) => {
-            reader.spare_here = mem::replace(&mut reader.spare, more);
-            reader.spare_there = aside.spare;
+            // Room that can't be kept is given back.
+            let _ = reader.spares.push(more);
             true
         }
         Err(_) => false,
@@ -54,8 +53,10 @@ impl BlockReader for TableReader {
         if !self.is_behind && self.table.assigned.is_empty() {
             return None;
         }
-        let here = mem::replace(&mut self.spare_here, Vec::new(alloc));
-        let mut assigned = mem::replace(&mut self.spare, here);
+        let mut assigned = match self.spares.pop() {
+            Some(spare) => spare,
+            None => Vec::new(alloc),
+        };
         assigned.clear();
         Some(TableReader {
             arcs,
@@ -66,9 +67,7 @@ impl BlockReader for TableReader {
                 steps: Vec::new(alloc),
             },
             is_behind: true,
-            spare: mem::replace(&mut self.spare_there, Vec::new(alloc)),
-            spare_here: Vec::new(alloc),
-            spare_there: Vec::new(alloc),
+            spares: Vec::new(alloc),
         })
     }
 

@@ -284,12 +284,8 @@ pub(crate) struct TableReader {
     pub table: RawTable,
     /// Whether this reader reads a piece behind lines of assignments.
     pub is_behind: bool,
-    /// Room for the assignments of a piece that another thread reads.
-    pub spare: Vec<(u32, u32)>,
-    /// The same of a piece of what this reader reads next.
-    pub spare_here: Vec<(u32, u32)>,
-    /// The same of a piece of what the other thread reads.
-    pub spare_there: Vec<(u32, u32)>,
+    /// Room for the assignments of pieces that other threads read.
+    pub spares: Vec<Vec<(u32, u32)>>,
 }
 
 impl TableReader {
@@ -460,9 +456,7 @@ fn start(alloc: Global, arcs: u32) -> TableReader
             steps: Vec::new(alloc),
         },
         is_behind: false,
-        spare: Vec::new(alloc),
-        spare_here: Vec::new(alloc),
-        spare_there: Vec::new(alloc),
+        spares: Vec::new(alloc),
     }
 }
 

@@ -44,8 +44,7 @@ impl Read for Slow<'_> {
     }
 }
 
-/// Reading by this many threads, in blocks of at least this many bytes, and by several threads from one byte
-/// on.
+/// Reading by this many threads, in blocks of at least this many bytes and in small pieces.
 fn in_blocks(alloc: Global, threads: usize, size: usize) -> Way
     ensures { 0 < result.size }
 {
@@ -53,7 +52,7 @@ fn in_blocks(alloc: Global, threads: usize, size: usize) -> Way
         alloc,
         threads,
         size: size.max(1),
-        least: 1,
+        piece: size / 16,
     }
 }
 

@@ -129,7 +129,7 @@ fn is_read_as_text<H: Threads + Sync>(
         alloc,
         threads,
         size: size.max(1),
-        least: 1,
+        piece: 1,
     };
     let found = read_tp_by(rt, way, 1 << 33, &mut StdIn::new(text), ARCS);
     is_same(&found, &read_tp(alloc, text, ARCS))

@@ -22,7 +22,7 @@ const NEAR: usize = 32_768;
 /// The least and the most bytes of a run, about.
 const LEAST_PART: usize = 32_768;
 
-const MOST_PART: usize = 1_048_576;
+const MOST_PART: usize = 524_288;
 
 /// Texts of fewer bytes are read by the calling thread alone.
 const LEAST_BESIDE: usize = 131_072;

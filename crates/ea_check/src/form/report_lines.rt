@@ -54,7 +54,7 @@ pub(crate) struct ReportLines {
 const BLOCK: usize = 262_144;
 
 /// The same for several threads.
-const LARGE_BLOCK: usize = 4_194_304;
+const LARGE_BLOCK: usize = 2_097_152;
 
 /// The least length of a block for this many threads.
 fn least_block(threads: usize) -> usize {

@@ -1,5 +1,5 @@
 use Rattle.ea_blocks.proofs.Fed.{finishes, fails, ends_badly}
-use Rattle.ea_blocks.proofs.stream.Feed.finish.Goals as goal
+use Rattle.ea_blocks.proofs.feed.Fed.finish.Goals as goal
 
 pub returns-in-Some : goal.returns-in-Some
 returns-in-Some g c = λ start text fed. fails g.R.LineReader.step g.R.LineReader.end g.R.LineReader.view start text _ _ c.args.self.fault c.in-Some.fault c.in-Some.is fed
