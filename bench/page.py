@@ -22,8 +22,8 @@ All programs of a table run in turns, one after the other, as often as its headi
 reads the same files, solves the same problems and writes the same report into a file, and each report is compared byte for byte with the
 first one's; of a run without reading and writing the sums of the arrivals are compared. A difference ends the bench with an error. The
 ratio is that of the middle times, beside the base: Dijkstra's method with a binary heap, by hand in Rust, one thread (`bench/hand`).
-Where there are several processors one thread of `earliest` takes a file's bytes while up to four others read their lines, whatever `--workers`
-says; the others read by one thread.
+Where there are several processors a network is read by up to eight threads of `earliest`, whatever `--workers` says; the others read by
+one thread.
 
 The networks are road-like grids with 2.5 arcs a node (`bench/generate.rs`). With timetables a third of the arcs have one of 16 kinds; with
 traffic patterns a third have one of 200 classes of 96 speeds. Searches begin at node 1, or at random nodes where there are many, and
