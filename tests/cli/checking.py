@@ -1,5 +1,6 @@
 """The check of large reports: the verdict is the same on one processor and on several, several threads read it
-if there are several processors, and thousands of small problems take the memory of one."""
+if there are several processors, thousands of small problems take the memory of one, and a report without walks is
+checked without an index of the network."""
 import os
 import subprocess
 import tempfile
@@ -13,6 +14,8 @@ NODES = 200_000
 PROBLEMS = 10_000
 # How much more memory thousands of problems may take than one, in KiB.
 MORE = 2_048
+# A network with many arcs for each node, and how much less memory a check takes than the run, which makes an index, in KiB.
+HUBS, HOPS, LESS = 20_000, 20, 1_024
 
 
 def write(folder, name, text):
@@ -23,6 +26,11 @@ def write(folder, name, text):
 def ring(nodes):
     arcs = "".join(f"a {node} {node % nodes + 1} 1\n" for node in range(1, nodes + 1))
     return f"p sp {nodes} {nodes}\n{arcs}"
+
+
+def hubs():
+    arcs = "".join(f"a {node} {(node + hop) % HUBS + 1} 1\n" for node in range(1, HUBS + 1) for hop in range(HOPS))
+    return f"p sp {HUBS} {HUBS * HOPS}\n{arcs}"
 
 
 def sources(count):
@@ -105,3 +113,7 @@ def results(program):
             outcomes.append(checked(program, folder, ["small.gr", "small.ss", "small.report"], here[:1]))
         (status, _, one), (_, said, many) = outcomes
         yield "memory of a check of many problems", (status, said, many - one <= MORE), (0, "ok\n", True)
+        write(folder, "hubs.gr", hubs())
+        run = memory.measured([program, "run", "hubs.gr", "one.ss", "-o", "hubs.report"], folder, here[:1])
+        check = checked(program, folder, ["hubs.gr", "one.ss", "hubs.report"], here[:1])
+        yield "memory of a check without walks", (*check[:2], check[2] + LESS <= run[2] or (check[2], run[2])), (0, "ok\n", True)

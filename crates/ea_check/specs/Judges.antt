@@ -10,16 +10,16 @@ use Rattle.ea_check.specs.Verdicts.{Said, MayJudge}
 
 -- What such a call is given.
 abbrev pub Given : Type 0
-Given = Bor Asking × (Bor (List Said) × (ℕ × (MutBor (List Part) × Unit {0})))
+Given = Bor Roads × (Bor Asking × (Bor (List Said) × (ℕ × (MutBor (List Part) × Unit {0}))))
 
 -- And what it leaves.
 abbrev pub Left : Type 0
 Left = Unit {0} × (MutBor (List Part) × Unit {0})
 
-module _ {F : Type 0} (g : Shared F Given Left) (f : F) (roads : Roads) (answers : ℕ → ℕ → ℕ → ℕ → Type 0) (classes : ℕ) where
-  -- Whatever the problem and its reported times, the parts may be judged, and are judged then.
+module _ {F : Type 0} (g : Shared F Given Left) (f : F) (answers : ℕ → ℕ → ℕ → ℕ → Type 0) (classes : ℕ) where
+  -- Whatever the network, the problem and its reported times, the parts may be judged, and are judged then.
   abbrev pub JudgesBy : Type 0
   JudgesBy =
-      (query : Bor Asking) (reported : Bor (List Said)) (above : ℕ) (parts : MutBor (List Part)) → MayJudge roads classes query.now.sources reported.now → AreFewParts roads parts.now
-      → g.pre f (query, (reported, (above, (parts, tt))))
-      × ((after : MutBor (List Part)) → g.post f (query, (reported, (above, (parts, tt)))) (tt, (after, tt)) → AreAllJudged roads answers query.now.sources reported.now above parts.now after.now)
+      (network : Bor Roads) (query : Bor Asking) (reported : Bor (List Said)) (above : ℕ) (parts : MutBor (List Part)) → MayJudge network.now classes query.now.sources reported.now → AreFewParts network.now parts.now
+      → g.pre f (network, (query, (reported, (above, (parts, tt)))))
+      × ((after : MutBor (List Part)) → g.post f (network, (query, (reported, (above, (parts, tt))))) (tt, (after, tt)) → AreAllJudged network.now answers query.now.sources reported.now above parts.now after.now)

@@ -22,3 +22,4 @@ pub mod Ahead
 pub mod Pieces
 pub mod Parts
 pub mod Judges
+pub mod Lazy

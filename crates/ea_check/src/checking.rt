@@ -10,6 +10,7 @@ ghost use Rattle.ea_check.specs.Form.{lines_of_report};
 ghost use Rattle.ea_check.specs.Judging.{HasVerdict, JudgesTo, judged_as};
 ghost use denote.Param.Send.{IsSync};
 ghost use Rattle.ea_check.specs.Judges.{JudgesBy};
+ghost use Rattle.ea_check.specs.Lazy.{roads_in};
 ghost use Rattle.ea_check.specs.Parts.{AreAllJudged, AreFewParts};
 ghost use Rattle.ea_check.specs.Streams.{IsSound, IsWholeText, most_bytes};
 ghost use Rattle.ea_check.specs.Verdicts.{IsVerdict, MayJudge};
@@ -22,35 +23,38 @@ use crate::form::reported::Reported;
 use crate::form::stop::Stop;
 use crate::judge::part::{Part, cut_arcs};
 use crate::judge::verdict::{judge, judge_parts, judge_parts_by};
+use crate::lazy_network::LazyNetwork;
 use crate::team::{Alone, Several, Team};
 use crate::text_in::TextIn;
 use ea_base::{Direction, Silent, Watch};
 use ea_blocks::ReadFault;
 use ea_bytes::ByteIn;
-use ea_road::{Network, Query, is_problem};
+use ea_road::{Network, NumberedArcs, Query, is_problem};
 use ea_travel_times::TravelTimes;
 use std::alloc::Global;
 use std::thread::Threads;
 
 /// The first fault of the problems read so far, of which this is the last.
-fn check_next<J: Fn(&Query, &Reported, u32, &mut [Part]), T: TravelTimes>(
+fn check_next<J: Fn(&NumberedArcs, &Query, &Reported, u32, &mut [Part]), T: TravelTimes>(
     before: Result<(), CheckFault>,
     alloc: Global,
     judging: &J,
-    network: &Network,
+    network: &mut LazyNetwork<'_>,
     times: &T,
     query: &Query,
     reported: &Reported,
     parts: &mut [Part],
 ) -> Result<(), CheckFault>
-    requires judging { JudgesBy J.Fn judging.now network.now (T.answers times.now)
-        (T.classes times.now) }
-    requires problem { MayJudge network.now (T.classes times.now) query.now.sources reported.now }
-    requires parts { AreFewParts network.now parts.old }
+    requires judging { JudgesBy J.Fn judging.now (T.answers times.now) (T.classes times.now) }
+    requires problem { MayJudge (roads_in network.old) (T.classes times.now)
+        query.now.sources reported.now }
+    requires parts { AreFewParts (roads_in network.old) parts.old }
     ensures verdict { MatchResult before
-        (λ _. IsVerdict network.now (T.answers times.now) query.now.sources reported.now result)
+        (λ _. IsVerdict (roads_in network.old) (T.answers times.now)
+        query.now.sources reported.now result)
         (λ fault. result ≡ Err fault) }
-    ensures parts { AreFewParts network.now parts.new }
+    ensures network { roads_in network.new ≡ roads_in network.old }
+    ensures parts { AreFewParts (roads_in network.old) parts.new }
 {
     before?;
     judge(alloc, judging, network, times, query, reported, parts)
@@ -72,7 +76,7 @@ pub fn is_checkable(network: &Network, classes: usize, queries: &[Query]) -> boo
 /// The first fault of the lines of a report's problems.
 fn check_lines<
     C: Team,
-    J: Fn(&Query, &Reported, u32, &mut [Part]),
+    J: Fn(&NumberedArcs, &Query, &Reported, u32, &mut [Part]),
     T: TravelTimes,
     R: ByteIn,
     V: Watch,
@@ -80,7 +84,7 @@ fn check_lines<
     alloc: Global,
     team: &C,
     judging: &J,
-    network: &Network,
+    network: &mut LazyNetwork<'_>,
     times: &T,
     queries: &[Query],
     lines: &mut ReportLines,
@@ -88,17 +92,17 @@ fn check_lines<
     watch: &mut V,
 ) -> Result<(), Stop>
     requires can { C.can_start team.now }
-    requires judging { JudgesBy J.Fn judging.now network.now (T.answers times.now)
-        (T.classes times.now) }
-    requires checkable { AreCheckable network.now (T.classes times.now) queries.now }
+    requires judging { JudgesBy J.Fn judging.now (T.answers times.now) (T.classes times.now) }
+    requires checkable { AreCheckable (roads_in network.old) (T.classes times.now) queries.now }
     requires sound { IsSound lines.old }
-    ensures { JudgesTo (IsChecked network.now (T.answers times.now) (sources_of queries.now))
+    ensures { JudgesTo
+        (IsChecked (roads_in network.old) (T.answers times.now) (sources_of queries.now))
         (R.seen device.old) lines.old (R.seen device.new) lines.new result }
 {
     let nodes = network.nodes();
     let mut reported = Reported::new(alloc);
     let mut ahead = Ahead::new(alloc, team.size())?;
-    let mut cut = cut_arcs(alloc, network, team.size())?;
+    let mut cut = cut_arcs(alloc, network.arcs(), team.size())?;
     let parts = cut.as_mut_slice();
     let mut verdict = Ok(());
     let mut done = 0;
@@ -158,26 +162,29 @@ fn verdict_of(judged: Result<(), Stop>) -> Result<Result<(), CheckFault>, ReadFa
 /// `TooLarge` if it has more than 2^64 - 1 bytes. Refused memory for a problem is a `CheckFault`.
 ///
 /// Several threads read plain lines and judge problems, if there are several; the verdict doesn't depend on them.
+/// The network's index is made for the first problem that needs one: with a walk, or with a node whose time no
+/// arc from an earlier time supports.
 ///
 /// Takes time in proportion to the report, and to the network for each query.
 pub fn check_stream<H: Threads + Sync, T: TravelTimes + Sync, R: ByteIn, V: Watch>(
     alloc: Global,
     team: &Several<'_, H>,
-    network: &Network,
+    network: LazyNetwork<'_>,
     times: &T,
     queries: &[Query],
     way: Direction,
     report: &mut R,
     watch: &mut V,
 ) -> Result<Result<(), CheckFault>, ReadFault>
-    requires { AreCheckable network.now (T.classes times.now) queries.now }
-    ensures checked { IfOk result (λ verdict. HasVerdict way network.now (T.answers times.now)
-        (sources_of queries.now) (R.seen report.old) (R.seen report.new) verdict) }
+    requires { AreCheckable (roads_in network) (T.classes times.now) queries.now }
+    ensures checked { IfOk result (λ verdict. HasVerdict way
+        (roads_in network.entry) (T.answers times.now) (sources_of queries.now)
+        (R.seen report.old) (R.seen report.new) verdict) }
     ensures end { OnOk result (IsAtEnd (R.seen report.new).bytes) }
     ensures fault { IfErr result (IsStopped most_bytes (R.seen report.old) (R.seen report.new)) }
 {
     let rt = team.rt;
-    let judging = |query: &Query, reported: &Reported, above: u32, parts: &mut [Part]|
+    let judging = |network: &NumberedArcs, query: &Query, reported: &Reported, above: u32, parts: &mut [Part]|
         requires { IsSync H.row × IsSync T.row
             × MayJudge network.now (T.classes times.now) query.now.sources reported.now
             × AreFewParts network.now parts.now }
@@ -192,7 +199,7 @@ pub fn check_stream<H: Threads + Sync, T: TravelTimes + Sync, R: ByteIn, V: Watc
 /// Like `check_stream`, by those who work on the report.
 fn check_by<
     C: Team,
-    J: Fn(&Query, &Reported, u32, &mut [Part]),
+    J: Fn(&NumberedArcs, &Query, &Reported, u32, &mut [Part]),
     T: TravelTimes,
     R: ByteIn,
     V: Watch,
@@ -200,7 +207,7 @@ fn check_by<
     alloc: Global,
     team: &C,
     judging: &J,
-    network: &Network,
+    mut network: LazyNetwork<'_>,
     times: &T,
     queries: &[Query],
     way: Direction,
@@ -208,17 +215,25 @@ fn check_by<
     watch: &mut V,
 ) -> Result<Result<(), CheckFault>, ReadFault>
     requires can { C.can_start team.now }
-    requires judging { JudgesBy J.Fn judging.now network.now (T.answers times.now)
-        (T.classes times.now) }
-    requires checkable { AreCheckable network.now (T.classes times.now) queries.now }
-    ensures checked { IfOk result (λ verdict. HasVerdict way network.now (T.answers times.now)
-        (sources_of queries.now) (R.seen report.old) (R.seen report.new) verdict) }
+    requires judging { JudgesBy J.Fn judging.now (T.answers times.now) (T.classes times.now) }
+    requires checkable { AreCheckable (roads_in network) (T.classes times.now) queries.now }
+    ensures checked { IfOk result (λ verdict. HasVerdict way
+        (roads_in network.entry) (T.answers times.now) (sources_of queries.now)
+        (R.seen report.old) (R.seen report.new) verdict) }
     ensures end { OnOk result (IsAtEnd (R.seen report.new).bytes) }
     ensures fault { IfErr result (IsStopped most_bytes (R.seen report.old) (R.seen report.new)) }
 {
     let mut lines = ReportLines::open(alloc, way, team.size(), report)?;
     let judged = check_lines(
-        alloc, team, judging, network, times, queries, &mut lines, report, watch,
+        alloc,
+        team,
+        judging,
+        &mut network,
+        times,
+        queries,
+        &mut lines,
+        report,
+        watch,
     );
     let verdict = verdict_of(judged)?;
     lines.skip_rest(report)?;
@@ -268,7 +283,7 @@ pub fn check_watched<T: TravelTimes, V: Watch>(
 {
     let mut device = TextIn::new(report);
     let way = Direction::Forward;
-    let judging = |query: &Query, reported: &Reported, above: u32, parts: &mut [Part]|
+    let judging = |network: &NumberedArcs, query: &Query, reported: &Reported, above: u32, parts: &mut [Part]|
         requires { MayJudge network.now (T.classes times.now) query.now.sources reported.now
             × AreFewParts network.now parts.now }
         ensures { AreAllJudged network.entry.now (T.answers times.entry.now) query.entry.now.sources
@@ -278,7 +293,7 @@ pub fn check_watched<T: TravelTimes, V: Watch>(
         alloc,
         &Alone,
         &judging,
-        network,
+        LazyNetwork::Given(network),
         times,
         queries,
         way,

@@ -6,9 +6,11 @@ mod fault;
 mod form;
 mod judge;
 pub mod laws;
+mod lazy_network;
 mod team;
 mod text_in;
 
 pub use checking::{check, check_stream, check_watched, is_checkable, skip_report};
 pub use fault::CheckFault;
+pub use lazy_network::LazyNetwork;
 pub use team::Several;

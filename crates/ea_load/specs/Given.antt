@@ -16,6 +16,7 @@ use Rattle.ea_base.specs.declared.direction.Direction.{Direction}
 use Rattle.ea_road.specs.Turned.{directed_roads}
 use Rattle.ea_travel_times.specs.Directed.{IsDirected}
 use Rattle.ea_load.specs.declared.road.Road.{Road}
+use Rattle.ea_load.specs.declared.road.UnindexedRoad.{UnindexedRoad}
 use Rattle.ea_load.specs.Files.{IsAll, IsAllIfThere}
 
 -- A graph, and the kinds of its classes with the classes of its arcs.
@@ -60,6 +61,10 @@ pub record IsRoadOf (direction : Direction) (given : Given) (road : Road) : Type
   pub network : road.network ≡ directed_roads direction (roads_of given)
   pub kinds : road.times.tables.list.items ≡ given.table.kinds
   pub steps : steps_in road.times.tables.steps ≡ given.table.steps
+
+-- What a road without an index is as a road.
+abbrev pub as_road : UnindexedRoad → Road
+as_road road = record { network = road.arcs; times = road.times }
 
 -- What readers gave, each at most MOST_BYTES, denotes this: a graph with timetables, if there is a file of
 -- them, and the starts of searches.

@@ -11,7 +11,7 @@ ghost use Rattle.ea_load.specs.Given.{AreGiven, Given, IsRoadOf};
 use crate::file_fault::{FileFault, FileWord};
 use crate::file_readers::{read_chosen, read_graph, read_own_times, read_sources};
 use crate::parallel_readers::{read_graph_by, read_pairs_by, read_road_by};
-use crate::road::{Road, read_road};
+use crate::road::{Road, UnindexedRoad, read_road};
 use ea_base::Direction;
 use ea_bytes::ByteIn;
 use std::alloc::Global;
@@ -94,6 +94,13 @@ pub fn read_extras<R: ByteIn>(
 #[derive(Drop)]
 pub struct RunFiles {
     pub road: Road,
+    pub sources: Vec<u32>,
+}
+
+/// The same; the network has no index by tail yet.
+#[derive(Drop)]
+pub struct CheckFiles {
+    pub road: UnindexedRoad,
     pub sources: Vec<u32>,
 }
 

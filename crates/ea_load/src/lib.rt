@@ -15,8 +15,8 @@ pub use departures::{Schedule, departures_fit, pair_queries, run_queries};
 pub use file_fault::{FileFault, FileWord};
 pub use file_readers::read_fault_of;
 pub use files::{
-    ExtraLists, OptionalFiles, PairFiles, RunFiles, read_extras, read_pairs, read_run,
+    CheckFiles, ExtraLists, OptionalFiles, PairFiles, RunFiles, read_extras, read_pairs, read_run,
 };
 pub use memory_texts::road_of_texts;
-pub use parallel_readers::read_run_by;
-pub use road::{Road, timetables_law};
+pub use parallel_readers::{read_check_by, read_run_by};
+pub use road::{Road, UnindexedRoad, timetables_law};

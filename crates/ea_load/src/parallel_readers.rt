@@ -10,19 +10,17 @@ ghost use Rattle.ea_input.specs.Table.{Table};
 ghost use Rattle.ea_input.specs.Views.{graph as graph_of};
 ghost use Rattle.ea_input.specs.TableViews.{table};
 ghost use Rattle.ea_load.specs.Files.{bytes_there, IsBorneIfThere, IsFaultIfThere, IsFaultIn, IsFileText, IsFirstFault, IsStreamFaultAs, IsTextIfThere, reading, tables};
-ghost use Rattle.ea_load.specs.Given.{AreGiven, Given, IsRoadOf, IsTableOf, given_by};
-ghost use Rattle.ea_load.specs.Sound.{IsSound};
+ghost use Rattle.ea_load.specs.Given.{AreGiven, Given, IsRoadOf, IsTableOf, as_road};
 
 use crate::file_fault::{FileFault, FileWord};
 use crate::file_readers::{fault_of, no_table, read_fault_of};
-use crate::files::RunFiles;
-use crate::road::{Road, classed_arcs, directed_arcs};
+use crate::files::{CheckFiles, RunFiles};
+use crate::road::{Road, UnindexedRoad, unindexed_road_of};
 use ea_base::{Direction, MOST_BYTES, RawGraph, RawTable};
 use ea_blocks::StreamFault;
 use ea_bytes::ByteIn;
 use ea_input::{read_gr_from, read_p2p_from, read_ss_from, read_tp_from};
 use ea_road::Network;
-use ea_travel_times::{RoadTimes, Timetables};
 use std::alloc::{AllocError, Global};
 use std::thread::{Threads, available_parallelism};
 
@@ -142,28 +140,41 @@ fn read_table_by<H: Threads + Sync, R: ByteIn>(
     }
 }
 
-/// Like `road_of`, by two threads.
-fn road_of_by<H: Threads + Sync>(
+/// A road with an index, which two threads make.
+fn indexed_by<H: Threads + Sync>(
+    alloc: Global,
+    rt: &H,
+    road: UnindexedRoad,
+) -> Result<Road, AllocError>
+    ensures { IfOk result (λ indexed. indexed ≡ as_road road) }
+{
+    let UnindexedRoad { arcs, times } = road;
+    let network = Network::of_arcs_by(alloc, rt, arcs)?;
+    Ok(Road { network, times })
+}
+
+/// Like `read_road_by`, without an index.
+fn read_unindexed_by<H: Threads + Sync, T: ByteIn>(
     alloc: Global,
     rt: &H,
     graph: RawGraph,
-    table: RawTable,
+    tp: &mut Option<T>,
     direction: Direction,
-) -> Result<Road, AllocError>
-    requires sound { IsSound (given_by graph table) }
-    ensures { IfOk result (IsRoadOf direction (given_by graph table)) }
+) -> Result<UnindexedRoad, FileFault>
+    requires denoted { (lines : List (List (List ℕ))) × DenotesGraph lines (graph_of graph) }
+    ensures road { IfOk result (λ road. (text : Option (List ℕ)) × (table : Table)
+        × IsTextIfThere T.seen tp.old tp.new text
+        × IsTableOf (length (graph_of graph).arcs) text table
+        × IsRoadOf direction (record { graph = graph_of graph; table = table }) (as_road road)) }
+    ensures fault { IfErr result
+        ((tables T.seen tp.old tp.new).IsFault (length (graph_of graph).arcs)) }
 {
-    let nodes = graph.nodes;
-    let arcs = directed_arcs(classed_arcs(alloc, graph, &table)?, direction);
-    let network = Network::of_list_by(alloc, rt, nodes, arcs)?;
-    let tables = Timetables::with_steps(alloc, table.kinds, table.steps)?;
-    Ok(Road {
-        network,
-        times: RoadTimes { tables, direction },
-    })
+    let table = read_table_by(alloc, rt, tp, graph.arcs.len() as u32)?;
+    let road = unindexed_road_of(alloc, graph, table, direction)?;
+    Ok(road)
 }
 
-/// Like `read_road`, by two threads.
+/// Like `read_road`, by several threads.
 pub(crate) fn read_road_by<H: Threads + Sync, T: ByteIn>(
     alloc: Global,
     rt: &H,
@@ -179,9 +190,36 @@ pub(crate) fn read_road_by<H: Threads + Sync, T: ByteIn>(
     ensures fault { IfErr result
         ((tables T.seen tp.old tp.new).IsFault (length (graph_of graph).arcs)) }
 {
-    let table = read_table_by(alloc, rt, tp, graph.arcs.len() as u32)?;
-    let road = road_of_by(alloc, rt, graph, table, direction)?;
+    let unindexed = read_unindexed_by(alloc, rt, graph, tp, direction)?;
+    let road = indexed_by(alloc, rt, unindexed)?;
     Ok(road)
+}
+
+/// Like `read_run`, in blocks, and by several threads if there are several processors. The network has no index.
+pub fn read_check_by<H: Threads + Sync, G: ByteIn, S: ByteIn, T: ByteIn>(
+    alloc: Global,
+    rt: &H,
+    gr: &mut G,
+    ss: &mut S,
+    tp: &mut Option<T>,
+    direction: Direction,
+) -> Result<CheckFiles, FileFault>
+    ensures given { IfOk result (λ files. (given : Given)
+        × AreGiven DenotesSources (G.seen gr.old).bytes (S.seen ss.old).bytes
+        (bytes_there T.seen tp.old)
+        given files.sources.items
+        × IsRoadOf direction given (as_road files.road)) }
+    ensures gr_borne { OnOk result (BearsOn (G.seen gr.old) (G.seen gr.new)) }
+    ensures ss_borne { OnOk result (BearsOn (S.seen ss.old) (S.seen ss.new)) }
+    ensures tp_borne { OnOk result (IsBorneIfThere T.seen tp.old tp.new) }
+    ensures fault { IfErr result (IsFirstFault FileWord.Ss source_format DenotesSources
+        (reading G.seen gr.old gr.new) (reading S.seen ss.old ss.new)
+        (tables T.seen tp.old tp.new)) }
+{
+    let graph = read_graph_by(alloc, rt, gr)?;
+    let sources = read_sources_by(alloc, rt, ss, graph.nodes)?;
+    let road = read_unindexed_by(alloc, rt, graph, tp, direction)?;
+    Ok(CheckFiles { road, sources })
 }
 
 /// Like `read_run`, in blocks, and by several threads if there are several processors.
@@ -205,8 +243,7 @@ pub fn read_run_by<H: Threads + Sync, G: ByteIn, S: ByteIn, T: ByteIn>(
         (reading G.seen gr.old gr.new) (reading S.seen ss.old ss.new)
         (tables T.seen tp.old tp.new)) }
 {
-    let graph = read_graph_by(alloc, rt, gr)?;
-    let sources = read_sources_by(alloc, rt, ss, graph.nodes)?;
-    let road = read_road_by(alloc, rt, graph, tp, direction)?;
+    let CheckFiles { road, sources } = read_check_by(alloc, rt, gr, ss, tp, direction)?;
+    let road = indexed_by(alloc, rt, road)?;
     Ok(RunFiles { road, sources })
 }

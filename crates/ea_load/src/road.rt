@@ -4,7 +4,7 @@ ghost use Rattle.ea_input.specs.Graph.{DenotesGraph};
 ghost use Rattle.ea_input.specs.Table.{DenotesTable, Table};
 ghost use Rattle.ea_input.specs.Views.{graph as graph_of};
 ghost use Rattle.ea_load.specs.Files.{IsTextIfThere, tables};
-ghost use Rattle.ea_load.specs.Given.{IsRoadOf, IsTableOf, given_by, roads_of};
+ghost use Rattle.ea_load.specs.Given.{IsRoadOf, IsTableOf, as_road, given_by, roads_of};
 ghost use Rattle.ea_road.specs.Turned.{arcs_in};
 ghost use Rattle.ea_load.specs.Sound.{IsSound};
 ghost use Rattle.ea_travel_times.specs.Timetables.{AreFit};
@@ -13,7 +13,7 @@ use crate::file_fault::FileFault;
 use crate::file_readers::read_table;
 use ea_base::{Direction, RawGraph, RawTable};
 use ea_bytes::ByteIn;
-use ea_road::{ArcList, Network};
+use ea_road::{ArcList, Network, NumberedArcs};
 use ea_travel_times::{RoadTimes, Timetables};
 use std::alloc::{AllocError, Global};
 
@@ -24,16 +24,11 @@ pub struct Road {
     pub times: RoadTimes,
 }
 
-/// The arcs of a graph with their classes.
-pub(crate) fn classed_arcs(
-    alloc: Global,
-    graph: RawGraph,
-    table: &RawTable,
-) -> Result<ArcList, AllocError>
-    requires { IsSound (given_by graph table.now) }
-    ensures { IfOk result (λ list. list ≡ (roads_of (given_by graph table.now)).arcs) }
-{
-    ArcList::with_classes(alloc, graph.arcs, table)
+/// The same; the network has no index by tail yet.
+#[derive(Drop)]
+pub struct UnindexedRoad {
+    pub arcs: NumberedArcs,
+    pub times: RoadTimes,
 }
 
 /// The arcs in a direction.
@@ -46,6 +41,30 @@ pub(crate) fn directed_arcs(arcs: ArcList, direction: Direction) -> ArcList
     }
 }
 
+/// The road of a graph and a table, in a direction, without an index.
+pub(crate) fn unindexed_road_of(
+    alloc: Global,
+    graph: RawGraph,
+    table: RawTable,
+    direction: Direction,
+) -> Result<UnindexedRoad, AllocError>
+    requires { IsSound (given_by graph table) }
+    ensures { IfOk result (λ road. IsRoadOf direction (given_by graph table) (as_road road)) }
+{
+    let RawTable {
+        kinds,
+        assigned,
+        steps,
+    } = table;
+    let tables = Timetables::with_steps(alloc, kinds, steps)?;
+    let nodes = graph.nodes;
+    let list = ArcList::with_classes(alloc, graph.arcs, &assigned)?;
+    Ok(UnindexedRoad {
+        arcs: NumberedArcs::new(nodes, directed_arcs(list, direction)),
+        times: RoadTimes { tables, direction },
+    })
+}
+
 /// The road of a graph and a table, in a direction.
 pub(crate) fn road_of(
     alloc: Global,
@@ -56,14 +75,9 @@ pub(crate) fn road_of(
     requires { IsSound (given_by graph table) }
     ensures { IfOk result (IsRoadOf direction (given_by graph table)) }
 {
-    let nodes = graph.nodes;
-    let arcs = directed_arcs(classed_arcs(alloc, graph, &table)?, direction);
-    let network = Network::of_list(alloc, nodes, arcs)?;
-    let tables = Timetables::with_steps(alloc, table.kinds, table.steps)?;
-    Ok(Road {
-        network,
-        times: RoadTimes { tables, direction },
-    })
+    let UnindexedRoad { arcs, times } = unindexed_road_of(alloc, graph, table, direction)?;
+    let network = Network::of_arcs(alloc, arcs)?;
+    Ok(Road { network, times })
 }
 
 /// The road of a graph and an optional file of timetables.

@@ -1,11 +1,11 @@
 //! The arcs of a network in the order of their numbers, as they are stored.
-ghost use Rattle.std.specs.Prelude.{◌≡◌, ◌<◌, IfOk, Some, length, map, slice_get};
+ghost use Rattle.std.specs.Prelude.{◌≡◌, ◌<◌, [], IfOk, Some, length, map, slice_get};
 ghost use Rattle.ea_road.specs.Assigned.{AreAssigned, arcs_with};
 ghost use Rattle.ea_road.specs.Turned.{turned_arc, turned_raw};
 
 use crate::arc::Arc;
 use crate::arcs_of_graph::{class_at, classed_arc, classes_of};
-use ea_base::{RawArc, RawTable};
+use ea_base::RawArc;
 use std::alloc::{AllocError, Global};
 use std::marker::Model;
 
@@ -28,19 +28,29 @@ impl Model for ArcList {
 }
 
 impl ArcList {
-    /// The arcs as they were read, each with the class that the table assigns to it last, or class 0.
-    /// Assigned numbers must be those of arcs. Fails only if memory for the classes is refused; none is taken
-    /// if the table assigns no class.
+    /// The arcs as they were read, each with the class that is assigned to it last, or class 0. Assigned numbers
+    /// must be those of arcs. Fails only if memory for the classes is refused; none is taken if no class is
+    /// assigned.
     pub fn with_classes(
         alloc: Global,
         raw: Vec<RawArc>,
-        table: &RawTable,
+        assigned: &[(u32, u32)],
     ) -> Result<ArcList, AllocError>
-        requires { AreAssigned (length raw.items) table.now.assigned.items }
-        ensures { IfOk result (λ list. list ≡ arcs_with table.entry.now.assigned.items raw.items) }
+        requires { AreAssigned (length raw.items) assigned.now }
+        ensures { IfOk result (λ list. list ≡ arcs_with assigned.now raw.items) }
     {
-        let classes = classes_of(alloc, raw.len(), &table.assigned)?;
+        let classes = classes_of(alloc, raw.len(), assigned)?;
         Ok(ArcList { raw, classes })
+    }
+
+    /// No arcs. Takes no memory.
+    pub fn empty(alloc: Global) -> ArcList
+        ensures { result ≡ [] }
+    {
+        ArcList {
+            raw: Vec::new(alloc),
+            classes: Vec::new(alloc),
+        }
     }
 
     /// A list of these arcs. Fails only if memory for the list is refused.

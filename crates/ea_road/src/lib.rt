@@ -9,6 +9,7 @@ pub mod latest_laws;
 pub mod laws;
 mod leaving_arc;
 mod network;
+mod numbered_arcs;
 mod problem;
 mod query;
 mod source;
@@ -29,6 +30,7 @@ pub use ea_travel_times::{
 pub use known::{AnyPair, Known};
 pub use leaving_arc::LeavingArc;
 pub use network::{Leaving, Network};
+pub use numbered_arcs::NumberedArcs;
 pub use problem::is_problem;
 pub use query::Query;
 pub use source::Source;

@@ -1,4 +1,4 @@
-ghost use Rattle.std.specs.Prelude.{◌≡◌, ◌≤◌, ◌<◌, ◌↔◌, IfOk, IsTrue, length, map};
+ghost use Rattle.std.specs.Prelude.{◌≡◌, ◌≤◌, ◌<◌, ◌↔◌, IfOk, IsTrue, MatchResult, length, map};
 ghost use Rattle.ea_road.specs.Index.{AreSums, AreSumsAndNumbers, IsRoom};
 ghost use Rattle.ea_road.specs.Turned.{turned_roads};
 ghost use Rattle.ea_road.specs.Roads.{AreSideBySide, FitsNodes, IsArc, IsNetwork, IsNode, leaving, mean_weight, top_class, without_tail};
@@ -6,6 +6,7 @@ ghost use Rattle.ea_road.specs.Roads.{AreSideBySide, FitsNodes, IsArc, IsNetwork
 use crate::arc::Arc;
 use crate::arc_list::ArcList;
 use crate::leaving_arc::LeavingArc;
+use crate::numbered_arcs::NumberedArcs;
 use crate::tail_index::{
     Room, Sums, index_by_tail, index_by_tail_by, numbers_to, sums_of, without_tails,
 };
@@ -22,8 +23,7 @@ const MANY_ARCS: usize = 65_536;
 /// contracts it is its number of nodes and its arcs.
 #[derive(Drop)]
 pub struct Network {
-    nodes: u32,
-    arcs: ArcList,
+    arcs: NumberedArcs,
     /// The index of each node's first arc in `numbers` and `by_tail`, and at the end that after the last arc.
     starts: Vec<u32>,
     /// The numbers of the arcs by their tails, ascending for each tail.
@@ -43,12 +43,11 @@ impl Model for Network {
 
     ghost Value = { Roads };
 
-    ghost view = { λ n. record { nodes = n.nodes; arcs = n.arcs } };
+    ghost view = { λ n. n.arcs };
 
-    ghost invariant = { λ n. (n.top ≡ top_class n.arcs)
-        × (n.mean ≡ mean_weight n.arcs)
-        × IsStoredNetwork (record { nodes = n.nodes; arcs = n.arcs })
-        n.starts.items n.numbers.items n.by_tail.items };
+    ghost invariant = { λ n. (n.top ≡ top_class n.arcs.arcs)
+        × (n.mean ≡ mean_weight n.arcs.arcs)
+        × IsStoredNetwork n.arcs n.starts.items n.numbers.items n.by_tail.items };
 }
 
 /// The arcs that leave a node, contiguous in memory, and their numbers, ascending.
@@ -67,39 +66,50 @@ impl Network {
     {
         let list = ArcList::of(alloc, &arcs)?;
         drop(arcs);
-        Network::of_list(alloc, nodes, list)
+        Network::of_arcs(alloc, NumberedArcs::new(nodes, list))
     }
 
-    /// Like `new`, from a list of arcs.
-    pub fn of_list(alloc: Global, nodes: u32, arcs: ArcList) -> Result<Network, AllocError>
-        requires { IsNetwork (record { nodes = nodes; arcs = arcs }) }
-        ensures { IfOk result (λ network. network ≡ record { nodes = nodes; arcs = arcs }) }
+    /// Like `new`, from numbered arcs.
+    pub fn of_arcs(alloc: Global, arcs: NumberedArcs) -> Result<Network, AllocError>
+        ensures { IfOk result (λ network. network ≡ arcs) }
     {
-        let (sums, numbers) = sums_and_numbers(alloc, nodes, &arcs)?;
-        let by_tail = without_tails(alloc, &arcs)?;
-        Ok(indexed(nodes, arcs, sums, Room { numbers, by_tail }))
+        match Network::or_arcs(alloc, arcs) {
+            Ok(network) => Ok(network),
+            Err(_) => Err(AllocError),
+        }
     }
 
-    /// Like `of_list`, in two threads if there are many arcs and a second thread can be started. One counts
+    /// Like `of_arcs`. If memory is refused, the arcs are given back.
+    pub fn or_arcs(alloc: Global, arcs: NumberedArcs) -> Result<Network, NumberedArcs>
+        ensures { MatchResult result (λ network. network ≡ arcs) (λ back. back ≡ arcs) }
+    {
+        let Ok((sums, numbers)) = sums_and_numbers(alloc, &arcs) else {
+            return Err(arcs);
+        };
+        let Ok(by_tail) = without_tails(alloc, arcs.arcs()) else {
+            return Err(arcs);
+        };
+        Ok(indexed(arcs, sums, Room { numbers, by_tail }))
+    }
+
+    /// Like `of_arcs`, in two threads if there are many arcs and a second thread can be started. One counts
     /// the arcs and allocates their numbers by tail; the other allocates the arcs by tail, which takes most
     /// of the time.
-    pub fn of_list_by<H: Threads + Sync>(
+    pub fn of_arcs_by<H: Threads + Sync>(
         alloc: Global,
         rt: &H,
-        nodes: u32,
-        arcs: ArcList,
+        arcs: NumberedArcs,
     ) -> Result<Network, AllocError>
-        requires { IsNetwork (record { nodes = nodes; arcs = arcs }) }
-        ensures { IfOk result (λ network. network ≡ record { nodes = nodes; arcs = arcs }) }
+        ensures { IfOk result (λ network. network ≡ arcs) }
     {
-        if arcs.len() < MANY_ARCS {
-            return Network::of_list(alloc, nodes, arcs);
+        if arcs.arcs().len() < MANY_ARCS {
+            return Network::of_arcs(alloc, arcs);
         }
-        let (sums, by_tail) = sums_and_room(alloc, rt, nodes, &arcs);
+        let (sums, by_tail) = sums_and_room(alloc, rt, &arcs);
         let (sums, numbers) = sums?;
         let by_tail = by_tail?;
         let room = Room { numbers, by_tail };
-        Ok(indexed_by(rt, nodes, arcs, sums, room))
+        Ok(indexed_by(rt, arcs, sums, room))
     }
 
     /// The network with every arc turned round: it leads from the head to the tail, with its number, weight and class. An error comes only
@@ -141,12 +151,19 @@ impl Network {
         self.mean
     }
 
+    /// The network without its index.
+    pub fn numbered(&self) -> &NumberedArcs
+        ensures { result.now ≡ self.now }
+    {
+        &self.arcs
+    }
+
     /// The number of nodes.
     pub fn nodes(&self) -> u32
         ensures nodes { result ≡ self.now.nodes }
         ensures network { IsNetwork self.now }
     {
-        self.nodes
+        self.arcs.nodes()
     }
 
     /// For proofs: the limits hold, and each arc's ends are nodes. Does nothing at run time.
@@ -161,7 +178,7 @@ impl Network {
         ensures arcs { result.now ≡ self.now.arcs }
         ensures network { IsNetwork self.now }
     {
-        &self.arcs
+        self.arcs.arcs()
     }
 
     /// The arc of a number, from 1.
@@ -172,7 +189,7 @@ impl Network {
         ensures fits { FitsNodes self.now.nodes result }
         ensures network { IsNetwork self.now }
     {
-        self.arcs.at(number as usize - 1)
+        self.arcs.arc(number)
     }
 
     /// The numbers of the arcs that leave a node, ascending.
@@ -218,16 +235,11 @@ impl Network {
 }
 
 /// The sums over a network's arcs, and the arcs' numbers in order.
-fn sums_and_numbers(
-    alloc: Global,
-    nodes: u32,
-    arcs: &ArcList,
-) -> Result<(Sums, Vec<u32>), AllocError>
-    requires { IsNetwork (record { nodes = nodes; arcs = arcs.now }) }
-    ensures { IfOk result (AreSumsAndNumbers nodes arcs.now) }
+fn sums_and_numbers(alloc: Global, arcs: &NumberedArcs) -> Result<(Sums, Vec<u32>), AllocError>
+    ensures { IfOk result (AreSumsAndNumbers arcs.now.nodes arcs.now.arcs) }
 {
-    let sums = sums_of(alloc, nodes, arcs)?;
-    let numbers = numbers_to(alloc, arcs.len())?;
+    let sums = sums_of(alloc, arcs.nodes(), arcs.arcs())?;
+    let numbers = numbers_to(alloc, arcs.arcs().len())?;
     Ok((sums, numbers))
 }
 
@@ -235,32 +247,30 @@ fn sums_and_numbers(
 fn sums_and_room<H: Threads + Sync>(
     alloc: Global,
     rt: &H,
-    nodes: u32,
-    arcs: &ArcList,
+    arcs: &NumberedArcs,
 ) -> (
     Result<(Sums, Vec<u32>), AllocError>,
     Result<Vec<LeavingArc>, AllocError>,
 )
-    requires { IsNetwork (record { nodes = nodes; arcs = arcs.now }) }
-    ensures sums { IfOk result.0 (AreSumsAndNumbers nodes arcs.now) }
-    ensures by_tail { IfOk result.1 (λ by_tail. by_tail.items ≡ map without_tail arcs.now) }
+    ensures sums { IfOk result.0 (AreSumsAndNumbers arcs.now.nodes arcs.now.arcs) }
+    ensures by_tail { IfOk result.1
+        (λ by_tail. by_tail.items ≡ map without_tail arcs.now.arcs) }
 {
     let sums = move || -> Result<(Sums, Vec<u32>), AllocError>
-        requires { IsNetwork (record { nodes = nodes; arcs = arcs.now }) }
-        ensures { IfOk result (AreSumsAndNumbers nodes arcs.entry.now) }
-    { sums_and_numbers(alloc, nodes, arcs) };
+        ensures { IfOk result (AreSumsAndNumbers arcs.entry.now.nodes arcs.entry.now.arcs) }
+    { sums_and_numbers(alloc, arcs) };
     let by_tail = move || -> Result<Vec<LeavingArc>, AllocError>
-        ensures { IfOk result (λ by_tail. by_tail.items ≡ map without_tail arcs.entry.now) }
-    { without_tails(alloc, arcs) };
+        ensures { IfOk result
+            (λ by_tail. by_tail.items ≡ map without_tail arcs.entry.now.arcs) }
+    { without_tails(alloc, arcs.arcs()) };
     join(rt, sums, by_tail)
 }
 
 /// A network from the sums over its arcs, with its index built in this room.
-fn indexed(nodes: u32, arcs: ArcList, sums: Sums, room: Room) -> Network
-    requires network { IsNetwork (record { nodes = nodes; arcs = arcs }) }
-    requires sums { AreSums nodes arcs sums }
-    requires room { IsRoom arcs room }
-    ensures { result ≡ record { nodes = nodes; arcs = arcs } }
+fn indexed(arcs: NumberedArcs, sums: Sums, room: Room) -> Network
+    requires sums { AreSums arcs.nodes arcs.arcs sums }
+    requires room { IsRoom arcs.arcs room }
+    ensures { result ≡ arcs }
 {
     let Sums {
         top,
@@ -270,15 +280,14 @@ fn indexed(nodes: u32, arcs: ArcList, sums: Sums, room: Room) -> Network
         ends: mut starts,
     } = sums;
     let Room { numbers, by_tail } = index_by_tail(
-        nodes,
-        &arcs,
+        arcs.nodes(),
+        arcs.arcs(),
         ascending,
         parts,
         &mut starts,
         room,
     );
     Network {
-        nodes,
         arcs,
         starts,
         numbers,
@@ -289,17 +298,10 @@ fn indexed(nodes: u32, arcs: ArcList, sums: Sums, room: Room) -> Network
 }
 
 /// The same; the index is built in several threads if that is worth it and others can be started.
-fn indexed_by<H: Threads + Sync>(
-    rt: &H,
-    nodes: u32,
-    arcs: ArcList,
-    sums: Sums,
-    room: Room,
-) -> Network
-    requires network { IsNetwork (record { nodes = nodes; arcs = arcs }) }
-    requires sums { AreSums nodes arcs sums }
-    requires room { IsRoom arcs room }
-    ensures { result ≡ record { nodes = nodes; arcs = arcs } }
+fn indexed_by<H: Threads + Sync>(rt: &H, arcs: NumberedArcs, sums: Sums, room: Room) -> Network
+    requires sums { AreSums arcs.nodes arcs.arcs sums }
+    requires room { IsRoom arcs.arcs room }
+    ensures { result ≡ arcs }
 {
     let Sums {
         top,
@@ -310,15 +312,14 @@ fn indexed_by<H: Threads + Sync>(
     } = sums;
     let Room { numbers, by_tail } = index_by_tail_by(
         rt,
-        nodes,
-        &arcs,
+        arcs.nodes(),
+        arcs.arcs(),
         ascending,
         parts,
         &mut starts,
         room,
     );
     Network {
-        nodes,
         arcs,
         starts,
         numbers,

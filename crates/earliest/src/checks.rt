@@ -4,16 +4,17 @@ ghost use Rattle.ea_check.specs.Checked.{AreCheckable, sources_of};
 ghost use Rattle.ea_load.specs.Files.{reading};
 ghost use Rattle.ea_load.specs.Asked.{files_of};
 ghost use Rattle.ea_options.specs.Limits.{AreOptions};
+ghost use Rattle.ea_load.specs.Given.{as_road};
 ghost use Rattle.ea_load.specs.Posed.{times_on};
 ghost use Rattle.earliest.specs.Checks.{HasReport, IsReportFault, IsVerdictOn};
 
 use crate::answers::schedule_by;
 use ea_base::{Direction, Silent, Watch};
 use ea_bytes::ByteIn;
-use ea_check::{CheckFault, Several, check_stream};
+use ea_check::{CheckFault, LazyNetwork, Several, check_stream};
 use ea_load::{
-    AnswerFault, FileFault, FileWord, OptionalFiles, Road, departures_fit, read_extras,
-    read_fault_of, read_run_by, run_queries,
+    AnswerFault, CheckFiles, FileFault, FileWord, OptionalFiles, UnindexedRoad, departures_fit,
+    read_check_by, read_extras, read_fault_of, run_queries,
 };
 use ea_options::RunOptions;
 use ea_road::Query;
@@ -35,16 +36,16 @@ fn checkers<H: Threads>(rt: &H) -> usize {
 fn judge<H: Threads + Sync, R: ByteIn, V: Watch>(
     alloc: Global,
     rt: &H,
-    road: &Road,
+    road: UnindexedRoad,
     queries: &[Query],
     way: Direction,
     report: &mut R,
     watch: &mut V,
 ) -> Result<Result<(), CheckFault>, FileFault>
-    requires checkable { AreCheckable road.now.network
-        (length road.now.times.tables.list.items) queries.now }
+    requires checkable { AreCheckable road.arcs
+        (length road.times.tables.list.items) queries.now }
     ensures { MatchResult result
-        (HasReport way road.now.network (times_on road.now) (sources_of queries.now)
+        (HasReport way road.arcs (times_on (as_road road)) (sources_of queries.now)
         (reading R.seen report.old report.new))
         (IsReportFault (reading R.seen report.old report.new)) }
 {
@@ -52,11 +53,12 @@ fn judge<H: Threads + Sync, R: ByteIn, V: Watch>(
         rt,
         threads: checkers(rt),
     };
+    let UnindexedRoad { arcs, times } = road;
     match check_stream(
         alloc,
         &team,
-        &road.network,
-        &road.times,
+        LazyNetwork::Unindexed(arcs),
+        &times,
         queries,
         way,
         report,
@@ -120,13 +122,13 @@ pub(crate) fn check_watched<
         (reading S.seen ss.old ss.new) T.seen others.old others.new)
         (reading R.seen report.old report.new) result }
 {
-    let files = read_run_by(alloc, rt, gr, ss, &mut others.tp, options.direction)?;
+    let files = read_check_by(alloc, rt, gr, ss, &mut others.tp, options.direction)?;
     let extras = match read_extras(
         alloc,
         &mut others.times,
         &mut others.nodes,
         files.sources.len() as u32,
-        files.road.network.nodes(),
+        files.road.arcs.nodes(),
     ) {
         Ok(extras) => extras,
         Err(fault) => {
@@ -134,39 +136,24 @@ pub(crate) fn check_watched<
             return Err(AnswerFault::from(fault));
         }
     };
+    let CheckFiles { road, sources } = files;
     let schedule = schedule_by(options, &extras);
-    if !departures_fit(files.sources.len(), schedule) {
+    if !departures_fit(sources.len(), schedule) {
         // The report's own fault comes before.
-        let judged = judge(
-            alloc,
-            rt,
-            &files.road,
-            &[],
-            options.direction,
-            report,
-            &mut Silent,
-        );
-        drop((files, extras));
+        let judged = judge(alloc, rt, road, &[], options.direction, report, &mut Silent);
+        drop((sources, extras));
         let _ = judged?;
         return Err(AnswerFault::BadOption);
     }
-    let queries = match run_queries(alloc, &files.sources, options.joint, schedule) {
+    let queries = match run_queries(alloc, &sources, options.joint, schedule) {
         Ok(queries) => queries,
         Err(refused) => {
-            drop((files, extras));
+            drop((road, sources, extras));
             return Err(AnswerFault::from(refused));
         }
     };
-    let judged = judge(
-        alloc,
-        rt,
-        &files.road,
-        &queries,
-        options.direction,
-        report,
-        watch,
-    );
-    drop((files, extras, queries));
+    let judged = judge(alloc, rt, road, &queries, options.direction, report, watch);
+    drop((sources, extras, queries));
     let verdict = judged?;
     Ok(verdict)
 }

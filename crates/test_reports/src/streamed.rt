@@ -1,11 +1,14 @@
 //! Reports that come from devices: in pieces, over several blocks, after interruptions, up to a failure.
+ghost use Rattle.std.specs.Prelude.{IfOk, IfSome};
+ghost use Rattle.ea_check.specs.Checked.{AreCheckable};
+
 use crate::asserts::{assert_none_wrong, assert_that};
 use CheckFault::{BadLine, NotAttained, NotCanonical, NotLeast};
 use ea_base::{Direction, HORIZON, Silent};
 use ea_blocks::ReadFault;
 use ea_bytes::StdIn;
 use ea_check::*;
-use ea_road::{Network, Query};
+use ea_road::{ArcList, Network, NumberedArcs, Query};
 use ea_travel_times::{Timetables, Turned};
 use std::alloc::{AllocError, Global};
 use std::io::{self, Error, ErrorKind, Read};
@@ -58,7 +61,34 @@ fn same(one: Said, four: Said) -> Said {
     if one == four { one } else { None }
 }
 
-/// The checker's answer on the report of earliest arrivals of a device.
+/// A copy of a network without an index, if these queries can be checked on it.
+fn unindexed(
+    alloc: Global,
+    network: &Network,
+    classes: usize,
+    queries: &[Query],
+) -> Result<Option<NumberedArcs>, AllocError>
+    ensures { IfOk result (λ found. IfSome found
+        (λ arcs. AreCheckable arcs classes queries.entry.now)) }
+{
+    let nodes = network.nodes();
+    let mut arcs = Vec::new(alloc);
+    for number in 1..network.arcs().len() as u32 + 1 {
+        arcs.push(network.arc(number))?;
+    }
+    if !Network::fits(nodes, &arcs) {
+        return Ok(None);
+    }
+    let list = ArcList::of(alloc, &arcs)?;
+    let copy = Network::new(alloc, nodes, arcs)?;
+    if !is_checkable(&copy, classes, queries) {
+        return Ok(None);
+    }
+    Ok(Some(NumberedArcs::new(nodes, list)))
+}
+
+/// The checker's answer on the report of earliest arrivals of a device. One thread is given an index; four threads
+/// make one if they need it.
 pub(crate) fn forward<H: Threads + Sync>(
     rt: &H,
     alloc: Global,
@@ -70,13 +100,19 @@ pub(crate) fn forward<H: Threads + Sync>(
     if !is_checkable(network, times.classes(), queries) {
         return None;
     }
+    let Ok(found) = unindexed(alloc, network, times.classes(), queries) else {
+        return None;
+    };
+    let Some(arcs) = found else {
+        return None;
+    };
     let way = Direction::Forward;
     let one = Several { rt, threads: 1 };
     let mut reader = StdIn::new(device);
     let by_one = check_stream(
         alloc,
         &one,
-        network,
+        LazyNetwork::Given(network),
         times,
         queries,
         way,
@@ -88,7 +124,7 @@ pub(crate) fn forward<H: Threads + Sync>(
     let by_four = check_stream(
         alloc,
         &four,
-        network,
+        LazyNetwork::Unindexed(arcs),
         times,
         queries,
         way,
@@ -111,6 +147,12 @@ fn turned<H: Threads + Sync>(
     if !is_checkable(network, times.classes(), queries) {
         return None;
     }
+    let Ok(found) = unindexed(alloc, network, times.classes(), queries) else {
+        return None;
+    };
+    let Some(arcs) = found else {
+        return None;
+    };
     let times = Turned::of(times);
     let way = Direction::Turned;
     let one = Several { rt, threads: 1 };
@@ -118,7 +160,7 @@ fn turned<H: Threads + Sync>(
     let by_one = check_stream(
         alloc,
         &one,
-        network,
+        LazyNetwork::Given(network),
         &times,
         queries,
         way,
@@ -130,7 +172,7 @@ fn turned<H: Threads + Sync>(
     let by_four = check_stream(
         alloc,
         &four,
-        network,
+        LazyNetwork::Unindexed(arcs),
         &times,
         queries,
         way,

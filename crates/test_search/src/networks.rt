@@ -1,7 +1,7 @@
 //! Networks of many arcs: one thread and two build the same leaving arcs of each node, whether tails ascend
 //! or not.
 use crate::asserts::assert_that;
-use ea_road::{Arc, ArcList, LeavingArc, Network};
+use ea_road::{Arc, ArcList, LeavingArc, Network, NumberedArcs};
 use std::alloc::{AllocError, Global};
 use std::test::Fail;
 use std::thread::Threads;
@@ -47,7 +47,8 @@ fn by_two<H: Threads + Sync>(
         return Ok(None);
     }
     let list = ArcList::of(alloc, arcs)?;
-    Ok(Some(Network::of_list_by(alloc, rt, NODES, list)?))
+    let arcs = NumberedArcs::new(NODES, list);
+    Ok(Some(Network::of_arcs_by(alloc, rt, arcs)?))
 }
 
 /// The network of these arcs, made by two threads.

@@ -390,12 +390,7 @@ fn raw_arc(tail: u32, weight: u32) -> RawArc {
 /// Three arcs as they are read, some with classes.
 fn classed(alloc: Global) -> Result<ArcList, AllocError> {
     let raw = vec![in alloc; raw_arc(1, 5), raw_arc(2, 7), raw_arc(3, 0)]?;
-    let table = RawTable {
-        kinds: Vec::new(alloc),
-        assigned: vec![in alloc; (3, 7), (1, 4), (3, 0), (3, 9), (1, 2)]?,
-        steps: Vec::new(alloc),
-    };
-    ArcList::with_classes(alloc, raw, &table)
+    ArcList::with_classes(alloc, raw, &[(3, 7), (1, 4), (3, 0), (3, 9), (1, 2)])
 }
 
 #[test]
@@ -410,12 +405,7 @@ fn classes_lie_beside_the_arcs(rt: HostRuntime) -> Result<(), Fail> {
 /// Two arcs as they are read, without classes.
 fn unclassed(alloc: Global) -> Result<ArcList, AllocError> {
     let raw = vec![in alloc; raw_arc(1, 5), raw_arc(2, 7)]?;
-    let table = RawTable {
-        kinds: Vec::new(alloc),
-        assigned: Vec::new(alloc),
-        steps: Vec::new(alloc),
-    };
-    ArcList::with_classes(alloc, raw, &table)
+    ArcList::with_classes(alloc, raw, &[])
 }
 
 #[test]

@@ -8,7 +8,7 @@ ghost use Rattle.ea_check.specs.declared.judge.part.Part.{Part as PartType};
 
 use crate::fault::CheckFault;
 use crate::judge::support::unmarked;
-use ea_road::Network;
+use ea_road::NumberedArcs;
 use std::alloc::Global;
 
 /// Arcs, from one number up to another, which is not among them.
@@ -31,7 +31,7 @@ pub(crate) struct Part {
 /// Appends a part with these arcs.
 fn push_part(
     alloc: Global,
-    network: &Network,
+    network: &NumberedArcs,
     arcs: ArcRange,
     parts: &mut Vec<Part>,
 ) -> Result<(), CheckFault>
@@ -63,7 +63,7 @@ fn parts_of(arcs: usize, most: usize) -> usize
 /// Cuts a network's arcs into at most this number of parts of about the same size.
 pub(crate) fn cut_arcs(
     alloc: Global,
-    network: &Network,
+    network: &NumberedArcs,
     most: usize,
 ) -> Result<Vec<Part>, CheckFault>
     requires { (1 ≤ most) × (most ≤ MOST_THREADS) }

@@ -7,6 +7,7 @@ ghost use Rattle.ea_road.specs.Roads.{IsArc, IsNode};
 ghost use Rattle.ea_check.specs.Nodes.{IsFirstOther, IsOtherAt};
 ghost use Rattle.ea_check.specs.Supported.{AreSupported, FindsLower, MayMark};
 ghost use Rattle.ea_check.specs.Judges.{JudgesBy};
+ghost use Rattle.ea_check.specs.Lazy.{IsIndexed, roads_in};
 ghost use Rattle.ea_check.specs.Parts.{AreFewParts, AreJudged, IsJudged, IsPart, IsRange, PassedIn};
 ghost use Rattle.ea_check.specs.Passing.{ComparesFrom, MayCompare};
 ghost use Rattle.ea_check.specs.Verdicts.{AreUnimproved, IsFirst, IsNotLeast, IsVerdict, MayJudge, reported_time};
@@ -17,13 +18,15 @@ use crate::judge::canonical_walk::{Compared, Path};
 use crate::judge::part::{ArcRange, Part, gather_marks, lowest_of};
 use crate::judge::support::{are_all_marked, mark, unmarked};
 use crate::judge::walk_sources::{attains, ordered_sources};
+use crate::lazy_network::LazyNetwork;
 use ea_base::HORIZON;
 use ea_fork_join::for_each_mut;
 use ea_paths::find_links;
-use ea_road::{NONE, Network, Query, Source};
+use ea_road::{NONE, Network, NumberedArcs, Query, Source};
 use ea_search::{Link, NO_LEVEL, Open};
 use ea_travel_times::TravelTimes;
 use std::alloc::Global;
+use std::mem;
 use std::thread::Threads;
 
 /// The number of a node's `w` line that is not the canonical walk, if the node's lines are attained.
@@ -108,7 +111,7 @@ fn first_other<T: TravelTimes>(
 /// The lower of a node and the head of an arc, if the arc improves the head's reported time. Marks the head if
 /// the arc supports its time.
 fn lower_by_arc<T: TravelTimes>(
-    network: &Network,
+    network: &NumberedArcs,
     times: &T,
     query: &Query,
     reported: &Reported,
@@ -148,7 +151,7 @@ fn lower_by_arc<T: TravelTimes>(
 /// The lowest node whose reported time an arc of a range improves, or `above` if no lower one is. Marks the nodes
 /// whose times such an arc supports.
 fn lowest_in_range<T: TravelTimes>(
-    network: &Network,
+    network: &NumberedArcs,
     times: &T,
     query: &Query,
     reported: &Reported,
@@ -179,7 +182,7 @@ fn unmark(marks: &mut [bool])
 
 /// Judges a part of the arcs, given a node above all that are looked for.
 pub(crate) fn judge_part<T: TravelTimes>(
-    network: &Network,
+    network: &NumberedArcs,
     times: &T,
     query: &Query,
     reported: &Reported,
@@ -198,7 +201,7 @@ pub(crate) fn judge_part<T: TravelTimes>(
 
 /// Judges each part of the arcs.
 pub(crate) fn judge_parts<T: TravelTimes>(
-    network: &Network,
+    network: &NumberedArcs,
     times: &T,
     query: &Query,
     reported: &Reported,
@@ -218,7 +221,7 @@ pub(crate) fn judge_parts<T: TravelTimes>(
 /// Judges each part of the arcs in a separate thread if one can be started.
 pub(crate) fn judge_parts_by<H: Threads + Sync, T: TravelTimes + Sync>(
     rt: &H,
-    network: &Network,
+    network: &NumberedArcs,
     times: &T,
     query: &Query,
     reported: &Reported,
@@ -241,9 +244,9 @@ pub(crate) fn judge_parts_by<H: Threads + Sync, T: TravelTimes + Sync>(
 
 /// The lowest node whose reported time an arc improves, or `above` if no lower one is. Marks the nodes whose
 /// times an arc supports.
-fn lowest_by_arcs<J: Fn(&Query, &Reported, u32, &mut [Part]), T: TravelTimes>(
+fn lowest_by_arcs<J: Fn(&NumberedArcs, &Query, &Reported, u32, &mut [Part]), T: TravelTimes>(
     judging: &J,
-    network: &Network,
+    network: &NumberedArcs,
     times: &T,
     query: &Query,
     reported: &Reported,
@@ -251,8 +254,7 @@ fn lowest_by_arcs<J: Fn(&Query, &Reported, u32, &mut [Part]), T: TravelTimes>(
     marks: &mut [bool],
     parts: &mut [Part],
 ) -> u32
-    requires judging { JudgesBy J.Fn judging.now network.now (T.answers times.now)
-        (T.classes times.now) }
+    requires judging { JudgesBy J.Fn judging.now (T.answers times.now) (T.classes times.now) }
     requires problem { MayMark network.now (T.answers times.now) (T.classes times.now)
         query.now.sources reported.now marks.old }
     requires parts { AreFewParts network.now parts.old }
@@ -264,7 +266,7 @@ fn lowest_by_arcs<J: Fn(&Query, &Reported, u32, &mut [Part]), T: TravelTimes>(
         → arrival ≤ HORIZON → arrival < reported_time reported.now arc.head → result ≤ arc.head }
     ensures parts { AreFewParts network.now parts.new }
 {
-    judging(query, reported, above, parts);
+    judging(network, query, reported, above, parts);
     gather_marks(parts, marks);
     lowest_of(parts, above)
 }
@@ -272,7 +274,7 @@ fn lowest_by_arcs<J: Fn(&Query, &Reported, u32, &mut [Part]), T: TravelTimes>(
 /// The lower of a node and a source's node, if the source improves the node's reported time. Marks the node if
 /// the source departs at its time.
 fn lower_by_source<T: TravelTimes>(
-    network: &Network,
+    network: &NumberedArcs,
     times: &T,
     query: &Query,
     reported: &Reported,
@@ -301,7 +303,7 @@ fn lower_by_source<T: TravelTimes>(
 /// The lowest node whose reported time a source improves, or `above` if no lower one is. Marks the nodes at
 /// whose times a source departs.
 fn lowest_by_sources<T: TravelTimes>(
-    network: &Network,
+    network: &NumberedArcs,
     times: &T,
     query: &Query,
     reported: &Reported,
@@ -323,17 +325,16 @@ fn lowest_by_sources<T: TravelTimes>(
 }
 
 /// The first `d` line that a source or an arc improves. Marks nodes whose times are supported.
-fn first_not_least<J: Fn(&Query, &Reported, u32, &mut [Part]), T: TravelTimes>(
+fn first_not_least<J: Fn(&NumberedArcs, &Query, &Reported, u32, &mut [Part]), T: TravelTimes>(
     judging: &J,
-    network: &Network,
+    network: &NumberedArcs,
     times: &T,
     query: &Query,
     reported: &Reported,
     marks: &mut [bool],
     parts: &mut [Part],
 ) -> Option<u64>
-    requires judging { JudgesBy J.Fn judging.now network.now (T.answers times.now)
-        (T.classes times.now) }
+    requires judging { JudgesBy J.Fn judging.now (T.answers times.now) (T.classes times.now) }
     requires problem { MayMark network.now (T.answers times.now) (T.classes times.now)
         query.now.sources reported.now marks.old }
     requires parts { AreFewParts network.now parts.old }
@@ -358,48 +359,100 @@ fn first_not_least<J: Fn(&Query, &Reported, u32, &mut [Part]), T: TravelTimes>(
 }
 
 /// The first `w` line that is not the canonical walk, if all lines are attained. Otherwise the first that is
-/// not attained. Without walks, and with all nodes marked, no line has to be looked at.
-fn first_by_marks<T: TravelTimes>(
+/// not attained.
+fn first_by_links<T: TravelTimes>(
     alloc: Global,
     network: &Network,
     times: &T,
     query: &Query,
     reported: &Reported,
-    marks: &[bool],
 ) -> Result<Option<u64>, CheckFault>
-    requires { MayMark network.now (T.answers times.now) (T.classes times.now)
-        query.now.sources reported.now marks.now }
+    requires { MayJudge network.now (T.classes times.now) query.now.sources reported.now }
     ensures { IsFirstOther network.now (T.answers times.now) query.now.sources reported.now result }
 {
-    if reported.has_no_walks() && are_all_marked(reported, marks) {
-        return Ok(None);
-    }
     let todo = Open::reserve(alloc, network.nodes())?;
     let links = find_links(network, times, query.sources(), reported.table(), todo);
     let ordered = ordered_sources(alloc, query.sources())?;
     first_other(alloc, network, times, query, &ordered, reported, &links)
 }
 
+/// Like `first_by_links`. Makes the network's index if there is none yet, and keeps it.
+fn first_by_index<T: TravelTimes>(
+    alloc: Global,
+    network: &mut LazyNetwork<'_>,
+    times: &T,
+    query: &Query,
+    reported: &Reported,
+) -> Result<Option<u64>, CheckFault>
+    requires { MayJudge (roads_in network.old) (T.classes times.now)
+        query.now.sources reported.now }
+    ensures other { IsFirstOther (roads_in network.old) (T.answers times.now)
+        query.now.sources reported.now result }
+    ensures network { roads_in network.new ≡ roads_in network.old }
+    ensures indexed { OnOk result (IsIndexed network.new) }
+{
+    match network {
+        LazyNetwork::Given(network) => first_by_links(alloc, network, times, query, reported),
+        LazyNetwork::Indexed(network) => first_by_links(alloc, network, times, query, reported),
+        LazyNetwork::Unindexed(arcs) => {
+            match Network::or_arcs(alloc, mem::replace(arcs, NumberedArcs::least(alloc))) {
+                Ok(indexed) => {
+                    let other = first_by_links(alloc, &indexed, times, query, reported);
+                    *network = LazyNetwork::Indexed(indexed);
+                    other
+                }
+                Err(back) => {
+                    *network = LazyNetwork::Unindexed(back);
+                    Err(CheckFault::OutOfMemory)
+                }
+            }
+        }
+    }
+}
+
+/// Like `first_by_index`. Without walks, and with all nodes marked, no line has to be looked at.
+fn first_by_marks<T: TravelTimes>(
+    alloc: Global,
+    network: &mut LazyNetwork<'_>,
+    times: &T,
+    query: &Query,
+    reported: &Reported,
+    marks: &[bool],
+) -> Result<Option<u64>, CheckFault>
+    requires { MayMark (roads_in network.old) (T.answers times.now) (T.classes times.now)
+        query.now.sources reported.now marks.now }
+    ensures other { IsFirstOther (roads_in network.old) (T.answers times.now)
+        query.now.sources reported.now result }
+    ensures network { roads_in network.new ≡ roads_in network.old }
+{
+    if reported.has_no_walks() && are_all_marked(reported, marks) {
+        return Ok(None);
+    }
+    first_by_index(alloc, network, times, query, reported)
+}
+
 /// The fault of a report's lines on one problem.
-pub(crate) fn judge<J: Fn(&Query, &Reported, u32, &mut [Part]), T: TravelTimes>(
+pub(crate) fn judge<J: Fn(&NumberedArcs, &Query, &Reported, u32, &mut [Part]), T: TravelTimes>(
     alloc: Global,
     judging: &J,
-    network: &Network,
+    network: &mut LazyNetwork<'_>,
     times: &T,
     query: &Query,
     reported: &Reported,
     parts: &mut [Part],
 ) -> Result<(), CheckFault>
-    requires judging { JudgesBy J.Fn judging.now network.now (T.answers times.now)
-        (T.classes times.now) }
-    requires problem { MayJudge network.now (T.classes times.now) query.now.sources reported.now }
-    requires parts { AreFewParts network.now parts.old }
-    ensures verdict { IsVerdict network.now
+    requires judging { JudgesBy J.Fn judging.now (T.answers times.now) (T.classes times.now) }
+    requires problem { MayJudge (roads_in network.old) (T.classes times.now)
+        query.now.sources reported.now }
+    requires parts { AreFewParts (roads_in network.old) parts.old }
+    ensures verdict { IsVerdict (roads_in network.old)
         (T.answers times.now) query.now.sources reported.now result }
-    ensures parts { AreFewParts network.now parts.new }
+    ensures network { roads_in network.new ≡ roads_in network.old }
+    ensures parts { AreFewParts (roads_in network.old) parts.new }
 {
-    let mut marks = unmarked(alloc, network.nodes() as usize)?;
-    let not_least = first_not_least(judging, network, times, query, reported, &mut marks, parts);
+    let arcs = network.arcs();
+    let mut marks = unmarked(alloc, arcs.nodes() as usize)?;
+    let not_least = first_not_least(judging, arcs, times, query, reported, &mut marks, parts);
     if let Some(line) = first_by_marks(alloc, network, times, query, reported, &marks)? {
         return Err(CheckFault::NotCanonical(line));
     }

@@ -1,14 +1,16 @@
-use Rattle.std.proofs.Common.{◌+◌, ◌++◌, List, [], ap, arith, drop, length, refl, subst, sym}
+use Rattle.std.proofs.Common.{◌∙◌, ◌+◌, ◌++◌, List, [], ap, arith, drop, length, refl, subst, sym}
 use Rattle.std.proofs.lemmas.Result.{err_from_is_err_and}
 use Rattle.std.specs.Prelude.{Ok, Err, Result}
 use Rattle.ea_road.specs.declared.source.Source.{Source}
 use Rattle.ea_road.specs.Queries.{Asking}
+use Rattle.ea_road.specs.Roads.{Roads}
 use Rattle.ea_check.specs.declared.fault.CheckFault.{CheckFault}
 use Rattle.ea_check.specs.declared.fault.CheckFault.TheVariants.{BadLine}
 use Rattle.ea_check.specs.declared.form.stop.Stop.TheVariants.{Report}
 use Rattle.ea_check.specs.Checked.{IsChecked, sources_of}
 use Rattle.ea_check.specs.declared.judge.part.Part.{Part}
 use Rattle.ea_check.specs.Judging.{JudgesTo}
+use Rattle.ea_check.specs.Lazy.{roads_in}
 use Rattle.ea_check.specs.Parts.{AreParts}
 use Rattle.ea_check.specs.Reads.{ProblemWrong, ReadsProblem, ReportWrong}
 use Rattle.ea_check.specs.Streams.{ahead, behind, line_of, rest_of, spoken}
@@ -24,7 +26,7 @@ use Rattle.ea_check.proofs.checking.check_lines.Goals as goal
 pub returns-in_err-read_problem : goal.returns-in_err-read_problem
 returns-in_err-read_problem g c =
     let p = err_from_is_err_and c.from_residual-in_err-read_problem.result c.from_residual-in_err-read_problem.ensures.1 in
-    let roads = c.args.network.now in
+    let roads = roads_in c.args.network.now in
     let answers = g.T.TravelTimes.answers c.args.times.now in
     let queries = sources_of c.args.queries.now in
     let place = c.loop-query.query-index in
@@ -40,26 +42,27 @@ returns-in_err-read_problem g c =
 pub check_next-verdict-requires-clause-problem : goal.check_next-verdict-requires-clause-problem
 check_next-verdict-requires-clause-problem g c =
     let read = rw (c.nodes-nodes.ensures.nodes, c.sources.ensures.sources) at c.in_ok-read_problem.ensures.read in
-    record {
-      task = task_of c.args.network.now (g.T.TravelTimes.classes c.args.times.now) c.query-item.result c.nodes-nodes.ensures.network (c.requires.checkable c.query-item.result (c.loop-query.query-index, (c.loop-query-test.true, c.query-item.is))).0;
+    rw c.loop-query.invariant.network (record {
+      task = task_of (roads_in c.args.network.now) (g.T.TravelTimes.classes c.args.times.now) c.query-item.result c.nodes-nodes.ensures.network (c.requires.checkable c.query-item.result (c.loop-query.query-index, (c.loop-query-test.true, c.query-item.is))).0;
       formed = formed_of (read.holds [] (λ ended. refl)) (ahead_in_order c.loop-query.lines (rest_of c.loop-query.lines ++ (read.got ++ [])) c.loop-query.invariant.sound);
-    }
+    })
 
 pub loop-query-init : goal.loop-query-init
 loop-query-init g c =
-    let roads = c.args.network.now in
+    let roads = roads_in c.args.network.now in
     let answers = g.T.TravelTimes.answers c.args.times.now in
     let queries = sources_of c.args.queries.now in
     record {
       done = refl;
+      network = refl;
       sound = c.requires.sound;
-      parts = (subst (AreParts roads) (sym c.as_mut_slice-parts.ensures.value) c.in_ok-cut.ensures.0, omega (arith, ap (λ (ps : List Part). length ps) c.as_mut_slice-parts.ensures.value, c.in_ok-cut.ensures.1, c.size-2.ensures));
+      parts = (subst (AreParts roads) (sym c.as_mut_slice-parts.ensures.value) (subst (λ (r : Roads). AreParts r c.in_ok-cut.cut.items) c.arcs.ensures c.in_ok-cut.ensures.0), omega (arith, ap (λ (ps : List Part). length ps) c.as_mut_slice-parts.ensures.value, c.in_ok-cut.ensures.1, c.size-2.ensures));
       leads = lines_here (ProblemsLeft roads answers queries queries (Ok tt)) _ c.args.lines.now c.requires.sound.ready.room (λ text. record { wrong = λ number wrong. wrong; onward = λ result form checked. checked });
     }
 
 pub loop-query-preserved : goal.loop-query-preserved
 loop-query-preserved g c =
-    let roads = c.args.network.now in
+    let roads = roads_in c.args.network.now in
     let answers = g.T.TravelTimes.answers c.args.times.now in
     let classes = g.T.TravelTimes.classes c.args.times.now in
     let queries = sources_of c.args.queries.now in
@@ -71,14 +74,16 @@ loop-query-preserved g c =
     let task = task_of roads classes query c.nodes-nodes.ensures.network (c.requires.checkable query (place, (c.loop-query-test.true, c.query-item.is))).0 in
     let formed = formed_of (read.holds [] (λ ended. refl)) (ahead_in_order c.loop-query.lines (rest_of c.loop-query.lines ++ (read.got ++ [])) c.loop-query.invariant.sound) in
     let right = faultless_right roads answers classes query.sources task (g.met.T.TravelTimes.fifo c.args.times.now) reported formed in
+    let verdict = rw c.loop-query.invariant.network at c.check_next-verdict.ensures.verdict in
     record {
       done = omega (arith, c.loop-query.invariant.done);
+      network = c.check_next-verdict.ensures.network ∙ c.loop-query.invariant.network;
       sound = c.in_ok-read_problem.ensures.sound;
-      parts = c.check_next-verdict.ensures.parts;
+      parts = rw c.loop-query.invariant.network at c.check_next-verdict.ensures.parts;
       leads = then_lines (ProblemsLeft roads answers queries (sources_of (drop {A = Asking} place c.args.queries.now)) c.loop-query.verdict) (ReadsProblem roads.nodes query.sources reported) (ProblemsLeft roads answers queries (sources_of (drop {A = Asking} (place + 1) c.args.queries.now)) c.check_next-verdict.result)
           (λ lines middle next left here. record {
             wrong = wrong_more roads.nodes c.args.queries.now place query c.loop-query-test.true c.query-item.is (ReportWrong roads.nodes queries lines) here left.wrong;
-            onward = onward_more roads answers queries lines (sources_of (drop (place + 1) c.args.queries.now)) next c.loop-query.verdict c.check_next-verdict.result here right c.check_next-verdict.ensures.verdict (subst (λ (qs : List (List Source)). Onward roads answers queries lines qs middle c.loop-query.verdict) next_is left.onward);
+            onward = onward_more roads answers queries lines (sources_of (drop (place + 1) c.args.queries.now)) next c.loop-query.verdict c.check_next-verdict.result here right verdict (subst (λ (qs : List (List Source)). Onward roads answers queries lines qs middle c.loop-query.verdict) next_is left.onward);
           })
           _ (g.R.Device.seen c.loop-query.device) _ c.args.lines.now c.loop-query.lines c.read_problem.new.lines c.loop-query.invariant.leads read;
     }
@@ -86,7 +91,7 @@ loop-query-preserved g c =
 pub returns-in_err-verdict-in-None : goal.returns-in_err-verdict-in-None
 returns-in_err-verdict-in-None g c =
     let p = err_from_is_err_and c.from_residual-in_err-verdict-in-None.result c.from_residual-in_err-verdict-in-None.ensures.1 in
-    let roads = c.args.network.now in
+    let roads = roads_in c.args.network.now in
     let answers = g.T.TravelTimes.answers c.args.times.now in
     let queries = sources_of c.args.queries.now in
     let left_of = sources_of (drop {A = Asking} c.loop-query.query-index c.args.queries.now) in
@@ -99,7 +104,7 @@ returns-in_err-verdict-in-None g c =
 
 pub returns-in-None : goal.returns-in-None
 returns-in-None g c =
-    let roads = c.args.network.now in
+    let roads = roads_in c.args.network.now in
     let answers = g.T.TravelTimes.answers c.args.times.now in
     let queries = sources_of c.args.queries.now in
     let left_of = sources_of (drop {A = Asking} c.loop-query.query-index c.args.queries.now) in
@@ -112,7 +117,7 @@ returns-in-None g c =
 
 pub returns : goal.returns
 returns g c =
-    let roads = c.args.network.now in
+    let roads = roads_in c.args.network.now in
     let answers = g.T.TravelTimes.answers c.args.times.now in
     let queries = sources_of c.args.queries.now in
     let left_of = sources_of (drop {A = Asking} c.loop-query.query-index c.args.queries.now) in
@@ -127,7 +132,7 @@ returns g c =
 
 pub read_problem-requires-clause-departures : goal.read_problem-requires-clause-departures
 read_problem-requires-clause-departures g c =
-    let task = task_of c.args.network.now (g.T.TravelTimes.classes c.args.times.now) c.query-item.result c.nodes-nodes.ensures.network (c.requires.checkable c.query-item.result (c.loop-query.query-index, (c.loop-query-test.true, c.query-item.is))).0 in
+    let task = task_of (roads_in c.args.network.now) (g.T.TravelTimes.classes c.args.times.now) c.query-item.result c.nodes-nodes.ensures.network (c.requires.checkable c.query-item.result (c.loop-query.query-index, (c.loop-query-test.true, c.query-item.is))).0 in
     rw c.sources.ensures.sources (λ source among. (task.starts source among).1)
 
 pub returns-in_err-ahead : goal.returns-in_err-ahead
@@ -135,11 +140,11 @@ returns-in_err-ahead g c =
     let p = err_from_is_err_and c.from_residual.result c.from_residual.ensures.1 in
     let lines = c.args.lines.now in
     let seen = g.R.Device.seen c.args.device.now in
-    rw (p.1, p.2) (subst (λ (fault : CheckFault). JudgesTo (IsChecked c.args.network.now (g.T.TravelTimes.answers c.args.times.now) (sources_of c.args.queries.now)) seen lines seen lines (Err (Report fault))) (sym c.in_err-ahead.ensures) (lines_here (λ text next. Unit {0}) seen lines c.requires.sound.ready.room (λ text. tt)))
+    rw (p.1, p.2) (subst (λ (fault : CheckFault). JudgesTo (IsChecked (roads_in c.args.network.now) (g.T.TravelTimes.answers c.args.times.now) (sources_of c.args.queries.now)) seen lines seen lines (Err (Report fault))) (sym c.in_err-ahead.ensures) (lines_here (λ text next. Unit {0}) seen lines c.requires.sound.ready.room (λ text. tt)))
 
 pub returns-in_err-cut : goal.returns-in_err-cut
 returns-in_err-cut g c =
     let p = err_from_is_err_and c.from_residual-in_err-cut.result c.from_residual-in_err-cut.ensures.1 in
     let lines = c.args.lines.now in
     let seen = g.R.Device.seen c.args.device.now in
-    rw (p.1, p.2) (subst (λ (fault : CheckFault). JudgesTo (IsChecked c.args.network.now (g.T.TravelTimes.answers c.args.times.now) (sources_of c.args.queries.now)) seen lines seen lines (Err (Report fault))) (sym c.in_err-cut.ensures) (lines_here (λ text next. Unit {0}) seen lines c.requires.sound.ready.room (λ text. tt)))
+    rw (p.1, p.2) (subst (λ (fault : CheckFault). JudgesTo (IsChecked (roads_in c.args.network.now) (g.T.TravelTimes.answers c.args.times.now) (sources_of c.args.queries.now)) seen lines seen lines (Err (Report fault))) (sym c.in_err-cut.ensures) (lines_here (λ text next. Unit {0}) seen lines c.requires.sound.ready.room (λ text. tt)))

@@ -7,6 +7,7 @@ use Rattle.ea_road.specs.Roads.{Roads}
 use Rattle.ea_load.specs.Asked.{AreSound, files_of, in_extras}
 use Rattle.ea_load.specs.Extra.{extras_in}
 use Rattle.ea_load.specs.Files.{reading}
+use Rattle.ea_load.specs.Given.{as_road}
 use Rattle.ea_load.specs.Posed.{AreProblems}
 use Rattle.ea_load.specs.Starts.{AreWithin, Plan, run_problems}
 use Rattle.ea_load.proofs.Asking.{each_asked, none_aimed}
@@ -23,9 +24,9 @@ pub returns-in_err-files : goal.returns-in_err-files
 returns-in_err-files g c =
     let p = err_from_is_err_and c.from_residual.result c.from_residual.ensures.1 in
     let o = c.args.options.now in
-    let gr = reading g.G.Device.seen c.args.gr.now c.read_run_by.new.gr in
-    let ss = reading g.S.Device.seen c.args.ss.now c.read_run_by.new.ss in
-    let others = optional_files c.read_run_by.new.tp c.args.others.now.times c.args.others.now.nodes in
+    let gr = reading g.G.Device.seen c.args.gr.now c.read_check_by.new.gr in
+    let ss = reading g.S.Device.seen c.args.ss.now c.read_check_by.new.ss in
+    let others = optional_files c.read_check_by.new.tp c.args.others.now.times c.args.others.now.nodes in
     let report = reading g.R.Device.seen c.args.report.now c.args.report.now in
     rw (p.1, p.2) (record { judged = tt; unjudged = (unread o (files_of gr ss g.T.Device.seen c.args.others.now others) report _ (in_run (first_there g.T.Device.seen (run_asks o) gr ss c.args.others.now others _ c.in_err-files.ensures.fault refl refl))) })
 
@@ -34,9 +35,9 @@ returns-in-Err g c =
     let o = c.args.options.now in
     let given = c.in_ok-files.ensures.given in
     let found = c.in_ok-files.files in
-    let gr = reading g.G.Device.seen c.args.gr.now c.read_run_by.new.gr in
-    let ss = reading g.S.Device.seen c.args.ss.now c.read_run_by.new.ss in
-    let others = optional_files c.read_run_by.new.tp c.read_extras.new.times c.read_extras.new.asked in
+    let gr = reading g.G.Device.seen c.args.gr.now c.read_check_by.new.gr in
+    let ss = reading g.S.Device.seen c.args.ss.now c.read_check_by.new.ss in
+    let others = optional_files c.read_check_by.new.tp c.read_extras.new.times c.read_extras.new.asked in
     let files = files_of gr ss g.T.Device.seen c.args.others.now others in
     let road = road_there (run_asks o) g.T.Device.seen gr ss c.args.others.now others given.0 found.sources.items given.1 c.in_ok-files.ensures.gr_borne c.in_ok-files.ensures.ss_borne c.in_ok-files.ensures.tp_borne in
     let many : c.len.result ≡ length found.sources.items = omega (arith, c.len.ensures, found.sources.ok.0) in
@@ -56,9 +57,9 @@ returns-in_err-judged g c =
     let o = c.args.options.now in
     let given = c.in_ok-files.ensures.given in
     let found = c.in_ok-files.files in
-    let gr = reading g.G.Device.seen c.args.gr.now c.read_run_by.new.gr in
-    let ss = reading g.S.Device.seen c.args.ss.now c.read_run_by.new.ss in
-    let others = optional_files c.read_run_by.new.tp c.read_extras.new.times c.read_extras.new.asked in
+    let gr = reading g.G.Device.seen c.args.gr.now c.read_check_by.new.gr in
+    let ss = reading g.S.Device.seen c.args.ss.now c.read_check_by.new.ss in
+    let others = optional_files c.read_check_by.new.tp c.read_extras.new.times c.read_extras.new.asked in
     let files = files_of gr ss g.T.Device.seen c.args.others.now others in
     let road = road_there (run_asks o) g.T.Device.seen gr ss c.args.others.now others given.0 found.sources.items given.1 c.in_ok-files.ensures.gr_borne c.in_ok-files.ensures.ss_borne c.in_ok-files.ensures.tp_borne in
     let many : c.len.result ≡ length found.sources.items = omega (arith, c.len.ensures, found.sources.ok.0) in
@@ -74,9 +75,9 @@ returns-then-not-departures_fit g c =
     let o = c.args.options.now in
     let given = c.in_ok-files.ensures.given in
     let found = c.in_ok-files.files in
-    let gr = reading g.G.Device.seen c.args.gr.now c.read_run_by.new.gr in
-    let ss = reading g.S.Device.seen c.args.ss.now c.read_run_by.new.ss in
-    let others = optional_files c.read_run_by.new.tp c.read_extras.new.times c.read_extras.new.asked in
+    let gr = reading g.G.Device.seen c.args.gr.now c.read_check_by.new.gr in
+    let ss = reading g.S.Device.seen c.args.ss.now c.read_check_by.new.ss in
+    let others = optional_files c.read_check_by.new.tp c.read_extras.new.times c.read_extras.new.asked in
     let files = files_of gr ss g.T.Device.seen c.args.others.now others in
     let road = road_there (run_asks o) g.T.Device.seen gr ss c.args.others.now others given.0 found.sources.items given.1 c.in_ok-files.ensures.gr_borne c.in_ok-files.ensures.ss_borne c.in_ok-files.ensures.tp_borne in
     let many : c.len.result ≡ length found.sources.items = omega (arith, c.len.ensures, found.sources.ok.0) in
@@ -111,9 +112,9 @@ returns-in-Err-run_queries g c =
     let o = c.args.options.now in
     let given = c.in_ok-files.ensures.given in
     let found = c.in_ok-files.files in
-    let gr = reading g.G.Device.seen c.args.gr.now c.read_run_by.new.gr in
-    let ss = reading g.S.Device.seen c.args.ss.now c.read_run_by.new.ss in
-    let others = optional_files c.read_run_by.new.tp c.read_extras.new.times c.read_extras.new.asked in
+    let gr = reading g.G.Device.seen c.args.gr.now c.read_check_by.new.gr in
+    let ss = reading g.S.Device.seen c.args.ss.now c.read_check_by.new.ss in
+    let others = optional_files c.read_check_by.new.tp c.read_extras.new.times c.read_extras.new.asked in
     let files = files_of gr ss g.T.Device.seen c.args.others.now others in
     let road = road_there (run_asks o) g.T.Device.seen gr ss c.args.others.now others given.0 found.sources.items given.1 c.in_ok-files.ensures.gr_borne c.in_ok-files.ensures.ss_borne c.in_ok-files.ensures.tp_borne in
     let many : c.len.result ≡ length found.sources.items = omega (arith, c.len.ensures, found.sources.ok.0) in
@@ -128,8 +129,8 @@ judge-judged-requires-2-clause-checkable g c κs within_call =
     let o = c.args.options.now in
     let given = c.in_ok-files.ensures.given in
     let found = c.in_ok-files.files in
-    let gr = reading g.G.Device.seen c.args.gr.now c.read_run_by.new.gr in
-    let ss = reading g.S.Device.seen c.args.ss.now c.read_run_by.new.ss in
+    let gr = reading g.G.Device.seen c.args.gr.now c.read_check_by.new.gr in
+    let ss = reading g.S.Device.seen c.args.ss.now c.read_check_by.new.ss in
     let extras = extras_in c.in-Ok.extras in
     let plan = c.schedule_by-schedule.ensures.plan in
     let fits : IsTrue c.departures_fit.result = search rules in
@@ -137,8 +138,8 @@ judge-judged-requires-2-clause-checkable g c κs within_call =
     let nodes = sources_are_nodes given.0.graph.nodes _ found.sources.items given.1.starts_denoted in
     let whole = given_is_sound DenotesSources _ _ _ given.0 found.sources.items given.1 in
     let queries = c.deref-2.ensures.value ∙ c.in-Ok-run_queries.ensures ∙ ap (λ (p : Plan). run_problems o.joint p c.deref.result.now) plan ∙ ap (λ (xs : List ℕ). run_problems o.joint (plan_by o extras.times) xs) c.deref.ensures.value in
-    each_asked found.road c.deref-2.result.now
-    (subst (AreProblems found.road) (sym queries) (run_is_posed given.0 found.road o.direction given.2 whole (plan_by o extras.times) o.joint found.sources.items nodes within))
+    each_asked (as_road found.road) c.deref-2.result.now
+    (subst (AreProblems (as_road found.road)) (sym queries) (run_is_posed given.0 (as_road found.road) o.direction given.2 whole (plan_by o extras.times) o.joint found.sources.items nodes within))
     (subst (All (λ (query : Asking). query.target ≡ None)) (sym queries) (none_aimed o.joint (plan_by o extras.times) found.sources.items))
 
 pub returns-in_err-verdict : goal.returns-in_err-verdict
@@ -147,9 +148,9 @@ returns-in_err-verdict g c =
     let o = c.args.options.now in
     let given = c.in_ok-files.ensures.given in
     let found = c.in_ok-files.files in
-    let gr = reading g.G.Device.seen c.args.gr.now c.read_run_by.new.gr in
-    let ss = reading g.S.Device.seen c.args.ss.now c.read_run_by.new.ss in
-    let others = optional_files c.read_run_by.new.tp c.read_extras.new.times c.read_extras.new.asked in
+    let gr = reading g.G.Device.seen c.args.gr.now c.read_check_by.new.gr in
+    let ss = reading g.S.Device.seen c.args.ss.now c.read_check_by.new.ss in
+    let others = optional_files c.read_check_by.new.tp c.read_extras.new.times c.read_extras.new.asked in
     let files = files_of gr ss g.T.Device.seen c.args.others.now others in
     let road = road_there (run_asks o) g.T.Device.seen gr ss c.args.others.now others given.0 found.sources.items given.1 c.in_ok-files.ensures.gr_borne c.in_ok-files.ensures.ss_borne c.in_ok-files.ensures.tp_borne in
     let many : c.len.result ≡ length found.sources.items = omega (arith, c.len.ensures, found.sources.ok.0) in
@@ -165,9 +166,9 @@ returns g c =
     let o = c.args.options.now in
     let given = c.in_ok-files.ensures.given in
     let found = c.in_ok-files.files in
-    let gr = reading g.G.Device.seen c.args.gr.now c.read_run_by.new.gr in
-    let ss = reading g.S.Device.seen c.args.ss.now c.read_run_by.new.ss in
-    let others = optional_files c.read_run_by.new.tp c.read_extras.new.times c.read_extras.new.asked in
+    let gr = reading g.G.Device.seen c.args.gr.now c.read_check_by.new.gr in
+    let ss = reading g.S.Device.seen c.args.ss.now c.read_check_by.new.ss in
+    let others = optional_files c.read_check_by.new.tp c.read_extras.new.times c.read_extras.new.asked in
     let files = files_of gr ss g.T.Device.seen c.args.others.now others in
     let road = road_there (run_asks o) g.T.Device.seen gr ss c.args.others.now others given.0 found.sources.items given.1 c.in_ok-files.ensures.gr_borne c.in_ok-files.ensures.ss_borne c.in_ok-files.ensures.tp_borne in
     let many : c.len.result ≡ length found.sources.items = omega (arith, c.len.ensures, found.sources.ok.0) in
@@ -183,6 +184,6 @@ returns g c =
     let queries = c.deref-2.ensures.value ∙ c.in-Ok-run_queries.ensures ∙ ap (λ (p : Plan). run_problems o.joint p c.deref.result.now) plan ∙ ap (λ (xs : List ℕ). run_problems o.joint (plan_by o extras.times) xs) c.deref.ensures.value in
     let report = reading g.R.Device.seen c.args.report.now c.judge-judged-2.new.report in
     record {
-      judged = judged o files report given.0 found.sources.items extras sound within found.road given.2 c.deref-2.result.now queries c.in_ok-verdict.verdict c.in_ok-verdict.ensures;
+      judged = judged o files report given.0 found.sources.items extras sound within (as_road found.road) given.2 c.deref-2.result.now queries c.in_ok-verdict.verdict c.in_ok-verdict.ensures;
       unjudged = tt;
     }

@@ -4,4 +4,4 @@ pub check_stream-by_one-requires-after_bounds : goal.check_stream-by_one-require
 check_stream-by_one-requires-after_bounds g c κs lent = rw c.classes.ensures at (c.is_checkable.ensures.0 c.if-not-is_checkable.false)
 
 pub check_stream-by_four-requires-after_bounds : goal.check_stream-by_four-requires-after_bounds
-check_stream-by_four-requires-after_bounds g c κs lent = rw c.classes.ensures at (c.is_checkable.ensures.0 c.if-not-is_checkable.false)
+check_stream-by_four-requires-after_bounds g c κs lent = rw (c.classes-2.ensures, c.in-Some.is) at c.in-Ok.ensures

@@ -5,10 +5,10 @@ use Rattle.ea_road.proofs.arc_list.ArcList.with_classes.Goals as goal
 pub classes_of-requires : goal.classes_of-requires
 classes_of-requires c =
     let many : c.len.result ≡ length c.args.raw.items = omega (arith, c.len.ensures, c.args.raw.ok.0) in
-    rw (many, c.deref.ensures.value) c.requires
+    rw many c.requires
 
 pub returns : goal.returns
 returns c =
     let many : c.len.result ≡ length c.args.raw.items = omega (arith, c.len.ensures, c.args.raw.ok.0) in
-    all_assigned c.in_ok-classes.classes.items c.args.table.now.assigned.items c.args.raw.items
-    (λ place inside. rw (← c.deref.ensures.value) (c.in_ok-classes.ensures place (omega (arith, many, inside))))
+    all_assigned c.in_ok-classes.classes.items c.args.assigned.now c.args.raw.items
+    (λ place inside. c.in_ok-classes.ensures place (omega (arith, many, inside)))

@@ -8,7 +8,7 @@ returns-clause-numbers c =
     let starts = c.self.inside.starts.items in
     let index = c.self.invariant.2.index in
     let nodes = ap (λ (roads : Roads). roads.nodes) c.self.view_is in
-    let is_node : IsNode c.self.inside.nodes c.args.node = rw nodes c.requires in
+    let is_node : IsNode c.self.inside.arcs.nodes c.args.node = rw nodes c.requires in
     let from = get_or_read starts (c.args.node - 1) _ (omega (arith, index.starts_length, is_node.to_last)) c.index.ensures 0 in
     let to = get_or_read starts c.args.node _ (omega (arith, index.starts_length, is_node.to_last)) c.index-2.ensures 0 in
     rw (c.deref.ensures.value, from, to) (rw (← c.self.view_is) (index.block c.args.node is_node))
@@ -18,7 +18,7 @@ returns-clause-arcs c =
     let starts = c.self.inside.starts.items in
     let index = c.self.invariant.2.index in
     let nodes = ap (λ (roads : Roads). roads.nodes) c.self.view_is in
-    let is_node : IsNode c.self.inside.nodes c.args.node = rw nodes c.requires in
+    let is_node : IsNode c.self.inside.arcs.nodes c.args.node = rw nodes c.requires in
     let from = get_or_read starts (c.args.node - 1) _ (omega (arith, index.starts_length, is_node.to_last)) c.index.ensures 0 in
     let to = get_or_read starts c.args.node _ (omega (arith, index.starts_length, is_node.to_last)) c.index-2.ensures 0 in
     rw (c.deref.ensures.value, c.deref-2.ensures.value, from, to) (rw (← c.self.view_is) (index.beside c.args.node is_node))
