@@ -102,11 +102,14 @@ class Bench:
             self.check(network, network.one, kind, programs.checks, rounds)
         if network.nodes <= 1_000_000:
             self.check(network, network.many, "timetables", programs.checks_of_many, min(3, rounds))
+        if network.nodes <= 100_000:
+            self.check(network, network.one, "plain", programs.checks_of_walks, rounds, "--walks")
 
-    def check(self, network, sources, kind, jobs, rounds):
+    def check(self, network, sources, kind, jobs, rounds, *options):
         """Checks of a report of a network's sources, with plain weights or timetables."""
         report = self.built.at("checked.report")
         words, _ = network.words(kind)
+        words += options
         with open(report, "wb") as file:
             words = [programs.EARLIEST, "run", network.gr, sources, *words, "--depart", str(programs.DEPART)]
             subprocess.run(words, stdout=file, check=True)

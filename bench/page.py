@@ -89,7 +89,7 @@ CHECKS = """## Checking and rank errors
 
 `check` of a report of one problem beside searching again and comparing by hand, which trusts that search; `rank` records a run over eight
 heaps and tells the rank error of each pop. The base is the one by hand. `check` takes as many threads as there are processors, or one processor
-(by `taskset`). A report of 64 problems is checked beside the run that writes it.
+(by `taskset`). A report of 64 problems is checked beside the run that writes it. Reading a report with walks takes most of the time of its check.
 """
 
 EMBEDDED = """## From Python
@@ -165,7 +165,9 @@ def table(title, these, base, memory=None):
 
 
 def lost(these):
-    """The programs that are faster than ours with as many threads."""
+    """The programs that are faster than ours with as many threads, if there are others."""
+    if all(is_ours(program) for program, threads in these):
+        return []
     best = {}
     for (program, threads), found in these.items():
         if is_ours(program):
@@ -318,11 +320,11 @@ def scattered(rows, rounds):
 
 
 def checks(rows, rounds):
-    out = [CHECKS]
+    out, peaks = [CHECKS], groups(rows, "peak_kib")
     for at, these in shown(groups(rows, "seconds")):
-        kind = {"plain": "plain weights, one problem", "timetables": "timetables, one problem"}.get(at[0], f"timetables, {at[0]}")
+        kind = {"plain": "plain weights, one problem", "timetables": "timetables, one problem"}.get(at[0], f"{'plain weights' if at[0].startswith('walks') else 'timetables'}, {at[0]}")
         what = f"{at[1]:,} nodes, {kind}, {rounds(at)} rounds"
-        out += table(what, these, these.get(("search again and compare, by hand", 1)))
+        out += table(what, these, these.get(("search again and compare, by hand", 1)), peaks.get(at))
     return out
 
 

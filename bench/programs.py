@@ -250,6 +250,16 @@ def checks_of_many(programs, network, report, kind):
     return [*jobs, Job(*at, "earliest check", 4, 0, [EARLIEST, "check", network.gr, network.many, report, *ours, *depart])]
 
 
+def checks_of_walks(programs, network, report, kind):
+    """Checking a report of one problem with walks. Reading it decides, so the input names its size."""
+    at = (f"walks, {os.path.getsize(report) / 1e6:.0f} MB", network.nodes)
+    check = [EARLIEST, "check", network.gr, network.one, report, "--depart", str(DEPART)]
+    jobs = [Job(*at, "earliest check", len(os.sched_getaffinity(0)), 0, check)]
+    if shutil.which("taskset"):
+        jobs.append(Job(*at, "earliest check", 1, 0, ["taskset", "--cpu-list", str(min(os.sched_getaffinity(0))), *check]))
+    return jobs
+
+
 def checks(programs, network, report, kind):
     """Checking a report by one processor and by all of them, compared with searching again; with timetables also rank errors."""
     ours, tp = network.words(kind)
