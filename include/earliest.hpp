@@ -1,9 +1,9 @@
 // The engine of `earliest` in a C++ program: classes over the calls of earliest.h, which says what a caller owes. C++17 is enough; with C++20
 // calls also take std::span.
 //
-// A road never changes, and any number of threads may ask it and make searches on it at the same time. A search is for one thread at a time;
-// searches on one road run on different threads. Both are moved and never copied. What was moved from holds nothing: a call on it is
-// refused (EARLIEST_NO_ROAD, EARLIEST_NO_SEARCH).
+// A road never changes, and any number of threads may ask it and make searches on it at the same time. A search is for one thread at a time: a
+// call on it beside another one is refused (EARLIEST_BUSY). Searches on one road run on different threads. Both are moved, by one thread alone, and
+// never copied. What was moved from holds nothing: a call on it is refused (EARLIEST_NO_ROAD, EARLIEST_NO_SEARCH).
 //
 // A call that is refused throws `failure`, or `input_failure` if a text has a fault. If EARLIEST_EXPECTED is defined before this file is
 // included, nothing is thrown: calls return `expected<T>` with a value or an `error`, and the factories road::read, road::of_arcs and search::on
@@ -11,6 +11,7 @@
 #ifndef EARLIEST_HPP
 #define EARLIEST_HPP
 
+#include <atomic>
 #include <cstddef>
 #include <cstdint>
 #include <initializer_list>
@@ -314,6 +315,49 @@ private:
     std::unique_ptr<core> core_;
 };
 
+namespace detail {
+/// What a search holds: its handle, how many nodes its road has, and whether a call uses it.
+class held {
+public:
+    earliest_search handle = EARLIEST_NOTHING;
+    std::uint32_t nodes = 0;
+    std::atomic<bool> used{false};
+    held() = default;
+    held(held &&other) noexcept : handle(std::exchange(other.handle, earliest_search EARLIEST_NOTHING)), nodes(std::exchange(other.nodes, 0)) {}
+    /// Lets go what this held; the other holds nothing then.
+    held &operator=(held &&other) noexcept {
+        if (this != &other) {
+            earliest_search_free(&handle);
+            handle = std::exchange(other.handle, earliest_search EARLIEST_NOTHING);
+            nodes = std::exchange(other.nodes, 0);
+        }
+        return *this;
+    }
+    held(const held &) = delete;
+    held &operator=(const held &) = delete;
+    ~held() { earliest_search_free(&handle); }
+};
+
+/// A call on a search, which may make several calls of earliest.h. Another one on the same search is refused until it ends.
+class turn {
+public:
+    explicit turn(held &by) noexcept : by_(by), is_mine_(!by.used.exchange(true, std::memory_order_acquire)) {}
+    turn(const turn &) = delete;
+    turn &operator=(const turn &) = delete;
+    ~turn() {
+        if (is_mine_) by_.used.store(false, std::memory_order_release);
+    }
+    std::uint32_t number() const noexcept { return is_mine_ ? 0u : std::uint32_t{EARLIEST_BUSY}; }
+
+private:
+    held &by_;
+    bool is_mine_;
+};
+}  // namespace detail
+#define EARLIEST_TURN_ \
+    detail::turn alone(held_); \
+    EARLIEST_TEST_(alone.number(), earliest_fault{})
+
 /// A search on a road, with its last answer. It has a share of the road, which may go before it.
 class search {
 public:
@@ -326,23 +370,15 @@ public:
         EARLIEST_TEST_(where.core_ ? 0u : std::uint32_t{EARLIEST_NO_ROAD}, earliest_fault{});
         search made;
         std::lock_guard<std::mutex> alone(where.core_->lock);
-        EARLIEST_TEST_(earliest_search_new(&where.core_->handle, walks ? 1 : 0, &made.handle_), earliest_fault{});
-        made.nodes_ = where.core_->nodes;
+        EARLIEST_TEST_(earliest_search_new(&where.core_->handle, walks ? 1 : 0, &made.held_.handle), earliest_fault{});
+        made.held_.nodes = where.core_->nodes;
         return made;
     }
-    search(search &&other) noexcept : handle_(std::exchange(other.handle_, earliest_search EARLIEST_NOTHING)), nodes_(std::exchange(other.nodes_, 0)) {}
+    search(search &&) noexcept = default;
     /// Lets go what this held; the other holds nothing then.
-    search &operator=(search &&other) noexcept {
-        if (this != &other) {
-            earliest_search_free(&handle_);
-            handle_ = std::exchange(other.handle_, earliest_search EARLIEST_NOTHING);
-            nodes_ = std::exchange(other.nodes_, 0);
-        }
-        return *this;
-    }
+    search &operator=(search &&) noexcept = default;
     search(const search &) = delete;
     search &operator=(const search &) = delete;
-    ~search() { earliest_search_free(&handle_); }
 
     /// Searches from these starts, as one problem, to all nodes.
 #ifdef EARLIEST_EXPECTED
@@ -350,10 +386,11 @@ public:
 #else
     search &from(list<start> starts) {
 #endif
+        EARLIEST_TURN_;
         std::vector<std::uint32_t> nodes(1 + starts.size());
         std::vector<std::uint64_t> departures(1 + starts.size());
         for (std::size_t i = 0; i < starts.size(); i++) nodes[i] = starts[i].node, departures[i] = starts[i].departure;
-        EARLIEST_TEST_(earliest_search_from(&handle_, nodes.data(), starts.size(), departures.data(), starts.size()), earliest_fault{});
+        EARLIEST_TEST_(earliest_search_from(&held_.handle, nodes.data(), starts.size(), departures.data(), starts.size()), earliest_fault{});
 #ifdef EARLIEST_EXPECTED
         return {};
 #else
@@ -362,38 +399,41 @@ public:
     }
     /// Searches from one start to one target: the earliest arrival, none if no walk reaches it within the horizon.
     detail::returned<std::optional<std::uint64_t>> to(start source, std::uint32_t target) {
-        EARLIEST_TEST_(earliest_search_pair(&handle_, source.node, source.departure, target), earliest_fault{});
-        return arrival(target);
+        EARLIEST_TURN_;
+        EARLIEST_TEST_(earliest_search_pair(&held_.handle, source.node, source.departure, target), earliest_fault{});
+        return told(target);
     }
     /// The earliest arrival at a node for which the last query asked.
     detail::returned<std::optional<std::uint64_t>> arrival(std::uint32_t node) {
-        std::uint64_t time = never;
-        EARLIEST_TEST_(earliest_search_arrival(&handle_, node, &time), earliest_fault{});
-        return time == never ? std::optional<std::uint64_t>() : std::optional<std::uint64_t>(time);
+        EARLIEST_TURN_;
+        return told(node);
     }
     /// The earliest arrivals at all nodes, the first at node 1; `never` for a node that no walk reaches.
     detail::returned<std::vector<std::uint64_t>> arrivals() {
-        std::vector<std::uint64_t> out(nodes_ + std::size_t{1});
-        EARLIEST_TEST_(earliest_search_arrivals(&handle_, out.data(), nodes_), earliest_fault{});
+        EARLIEST_TURN_;
+        std::vector<std::uint64_t> out(held_.nodes + std::size_t{1});
+        EARLIEST_TEST_(earliest_search_arrivals(&held_.handle, out.data(), held_.nodes), earliest_fault{});
         out.pop_back();
         return out;
     }
     /// The same into the caller's memory, which has a place for each node; another size is refused (EARLIEST_ROOM_TOO_SMALL).
     detail::returned<void> arrivals_into(room<std::uint64_t> out) {
+        EARLIEST_TURN_;
         std::uint64_t none = 0;
-        EARLIEST_TEST_(earliest_search_arrivals(&handle_, out.size() ? out.data() : &none, out.size()), earliest_fault{});
+        EARLIEST_TEST_(earliest_search_arrivals(&held_.handle, out.size() ? out.data() : &none, out.size()), earliest_fault{});
         EARLIEST_DONE_;
     }
     /// A row of arrivals for each source, each a problem of its own: into the caller's memory, which has a place for each source and node. One
     /// departure serves for all sources. Threads that have a search each divide the rows of a matrix. The last answer is that of the last row.
     detail::returned<void> rows_into(list<std::uint32_t> sources, list<std::uint64_t> departures, room<std::uint64_t> out) {
-        EARLIEST_TEST_(handle_.at ? 0u : std::uint32_t{EARLIEST_NO_SEARCH}, earliest_fault{});
+        EARLIEST_TURN_;
+        EARLIEST_TEST_(held_.handle.at ? 0u : std::uint32_t{EARLIEST_NO_SEARCH}, earliest_fault{});
         EARLIEST_TEST_(departures.size() == sources.size() || departures.size() == 1 ? 0u : std::uint32_t{EARLIEST_LENGTHS_DIFFER}, earliest_fault{});
-        EARLIEST_TEST_(out.size() == sources.size() * nodes_ ? 0u : std::uint32_t{EARLIEST_ROOM_TOO_SMALL}, earliest_fault{});
+        EARLIEST_TEST_(out.size() == sources.size() * held_.nodes ? 0u : std::uint32_t{EARLIEST_ROOM_TOO_SMALL}, earliest_fault{});
         for (std::size_t row = 0; row < sources.size(); row++) {
             const std::uint64_t *departure = departures.data() + (departures.size() == 1 ? 0 : row);
-            EARLIEST_TEST_(earliest_search_from(&handle_, sources.data() + row, 1, departure, 1), earliest_fault{});
-            EARLIEST_TEST_(earliest_search_arrivals(&handle_, out.data() + row * nodes_, nodes_), earliest_fault{});
+            EARLIEST_TEST_(earliest_search_from(&held_.handle, sources.data() + row, 1, departure, 1), earliest_fault{});
+            EARLIEST_TEST_(earliest_search_arrivals(&held_.handle, out.data() + row * held_.nodes, held_.nodes), earliest_fault{});
         }
         EARLIEST_DONE_;
     }
@@ -401,24 +441,27 @@ public:
     /// their order, into the caller's memory, which has a place for each; `never` for a node that no walk reaches. What arrival, arrivals and
     /// walk read stays that of the last other query.
     detail::returned<void> arrivals_at_into(list<start> starts, list<std::uint32_t> asked, room<std::uint64_t> out) {
+        EARLIEST_TURN_;
         EARLIEST_TEST_(out.size() == asked.size() ? 0u : std::uint32_t{EARLIEST_ROOM_TOO_SMALL}, earliest_fault{});
         EARLIEST_TEST_(ask(starts, asked, out), earliest_fault{});
         EARLIEST_DONE_;
     }
     /// The same as a list.
     detail::returned<std::vector<std::uint64_t>> arrivals_at(list<start> starts, list<std::uint32_t> asked) {
+        EARLIEST_TURN_;
         std::vector<std::uint64_t> out(asked.size());
         EARLIEST_TEST_(ask(starts, asked, room<std::uint64_t>(out)), earliest_fault{});
         return out;
     }
     /// The numbers of the arcs of a node's canonical walk; none if no walk reaches it within the horizon.
     detail::returned<std::optional<std::vector<std::uint32_t>>> walk(std::uint32_t node) {
+        EARLIEST_TURN_;
         std::vector<std::uint32_t> out(256);
         std::uint64_t count = 0;
-        std::uint32_t number = earliest_search_walk(&handle_, node, out.data(), out.size(), &count);
+        std::uint32_t number = earliest_search_walk(&held_.handle, node, out.data(), out.size(), &count);
         if (number == EARLIEST_ROOM_TOO_SMALL) {
             out.resize(static_cast<std::size_t>(count));
-            number = earliest_search_walk(&handle_, node, out.data(), out.size(), &count);
+            number = earliest_search_walk(&held_.handle, node, out.data(), out.size(), &count);
         }
         if (number == EARLIEST_NOT_REACHED) return std::optional<std::vector<std::uint32_t>>();
         EARLIEST_TEST_(number, earliest_fault{});
@@ -428,16 +471,20 @@ public:
 
 private:
     search() = default;
+    detail::returned<std::optional<std::uint64_t>> told(std::uint32_t node) {
+        std::uint64_t time = never;
+        EARLIEST_TEST_(earliest_search_arrival(&held_.handle, node, &time), earliest_fault{});
+        return time == never ? std::optional<std::uint64_t>() : std::optional<std::uint64_t>(time);
+    }
     std::uint32_t ask(list<start> starts, list<std::uint32_t> asked, room<std::uint64_t> out) {
         std::vector<std::uint32_t> nodes(1 + starts.size());
         std::vector<std::uint64_t> departures(1 + starts.size());
         for (std::size_t i = 0; i < starts.size(); i++) nodes[i] = starts[i].node, departures[i] = starts[i].departure;
-        std::uint32_t number = earliest_search_asking(&handle_, nodes.data(), starts.size(), departures.data(), starts.size(), asked.data(), asked.size());
+        std::uint32_t number = earliest_search_asking(&held_.handle, nodes.data(), starts.size(), departures.data(), starts.size(), asked.data(), asked.size());
         std::uint64_t none = 0;
-        return number ? number : earliest_search_answers(&handle_, out.size() ? out.data() : &none, out.size());
+        return number ? number : earliest_search_answers(&held_.handle, out.size() ? out.data() : &none, out.size());
     }
-    earliest_search handle_ = EARLIEST_NOTHING;
-    std::uint32_t nodes_ = 0;
+    detail::held held_;
 };
 
 /// A search for latest departures on a road, with its last answer. It has a share of the road, which may go before it.
@@ -453,23 +500,15 @@ public:
         latest made;
         std::lock_guard<std::mutex> alone(where.core_->lock);
         if (!where.core_->turned.at) EARLIEST_TEST_(earliest_road_turned(&where.core_->handle, &where.core_->turned), earliest_fault{});
-        EARLIEST_TEST_(earliest_search_new_until(&where.core_->turned, walks ? 1 : 0, &made.handle_), earliest_fault{});
-        made.nodes_ = where.core_->nodes;
+        EARLIEST_TEST_(earliest_search_new_until(&where.core_->turned, walks ? 1 : 0, &made.held_.handle), earliest_fault{});
+        made.held_.nodes = where.core_->nodes;
         return made;
     }
-    latest(latest &&other) noexcept : handle_(std::exchange(other.handle_, earliest_search EARLIEST_NOTHING)), nodes_(std::exchange(other.nodes_, 0)) {}
+    latest(latest &&) noexcept = default;
     /// Lets go what this held; the other holds nothing then.
-    latest &operator=(latest &&other) noexcept {
-        if (this != &other) {
-            earliest_search_free(&handle_);
-            handle_ = std::exchange(other.handle_, earliest_search EARLIEST_NOTHING);
-            nodes_ = std::exchange(other.nodes_, 0);
-        }
-        return *this;
-    }
+    latest &operator=(latest &&) noexcept = default;
     latest(const latest &) = delete;
     latest &operator=(const latest &) = delete;
-    ~latest() { earliest_search_free(&handle_); }
 
     /// Searches for the latest departures of all nodes from which some of these stops is reached by its time.
 #ifdef EARLIEST_EXPECTED
@@ -477,10 +516,11 @@ public:
 #else
     latest &until(list<stop> stops) {
 #endif
+        EARLIEST_TURN_;
         std::vector<std::uint32_t> nodes(1 + stops.size());
         std::vector<std::uint64_t> times(1 + stops.size());
         for (std::size_t i = 0; i < stops.size(); i++) nodes[i] = stops[i].node, times[i] = stops[i].time;
-        EARLIEST_TEST_(earliest_search_until(&handle_, nodes.data(), stops.size(), times.data(), stops.size()), earliest_fault{});
+        EARLIEST_TEST_(earliest_search_until(&held_.handle, nodes.data(), stops.size(), times.data(), stops.size()), earliest_fault{});
 #ifdef EARLIEST_EXPECTED
         return {};
 #else
@@ -489,30 +529,32 @@ public:
     }
     /// The latest departure from a node by which one stop is reached by its time; none if no departure is in time.
     detail::returned<std::optional<std::uint64_t>> from(std::uint32_t source, stop target) {
-        EARLIEST_TEST_(earliest_search_pair_until(&handle_, source, target.node, target.time), earliest_fault{});
-        return departure(source);
+        EARLIEST_TURN_;
+        EARLIEST_TEST_(earliest_search_pair_until(&held_.handle, source, target.node, target.time), earliest_fault{});
+        return told(source);
     }
     /// The latest departure of a node for which the last query asked.
     detail::returned<std::optional<std::uint64_t>> departure(std::uint32_t node) {
-        std::uint64_t time = never;
-        EARLIEST_TEST_(earliest_search_departure(&handle_, node, &time), earliest_fault{});
-        return time == never ? std::optional<std::uint64_t>() : std::optional<std::uint64_t>(time);
+        EARLIEST_TURN_;
+        return told(node);
     }
     /// The latest departures of all nodes, the first that of node 1; `never` for a node that can't be left in time.
     detail::returned<std::vector<std::uint64_t>> departures() {
-        std::vector<std::uint64_t> out(nodes_ + std::size_t{1});
-        EARLIEST_TEST_(earliest_search_departures(&handle_, out.data(), nodes_), earliest_fault{});
+        EARLIEST_TURN_;
+        std::vector<std::uint64_t> out(held_.nodes + std::size_t{1});
+        EARLIEST_TEST_(earliest_search_departures(&held_.handle, out.data(), held_.nodes), earliest_fault{});
         out.pop_back();
         return out;
     }
     /// The numbers of the arcs of a node's canonical walk to a stop; none if no departure is in time.
     detail::returned<std::optional<std::vector<std::uint32_t>>> walk(std::uint32_t node) {
+        EARLIEST_TURN_;
         std::vector<std::uint32_t> out(256);
         std::uint64_t count = 0;
-        std::uint32_t number = earliest_search_walk_until(&handle_, node, out.data(), out.size(), &count);
+        std::uint32_t number = earliest_search_walk_until(&held_.handle, node, out.data(), out.size(), &count);
         if (number == EARLIEST_ROOM_TOO_SMALL) {
             out.resize(static_cast<std::size_t>(count));
-            number = earliest_search_walk_until(&handle_, node, out.data(), out.size(), &count);
+            number = earliest_search_walk_until(&held_.handle, node, out.data(), out.size(), &count);
         }
         if (number == EARLIEST_NOT_REACHED) return std::optional<std::vector<std::uint32_t>>();
         EARLIEST_TEST_(number, earliest_fault{});
@@ -522,13 +564,18 @@ public:
 
 private:
     latest() = default;
-    earliest_search handle_ = EARLIEST_NOTHING;
-    std::uint32_t nodes_ = 0;
+    detail::returned<std::optional<std::uint64_t>> told(std::uint32_t node) {
+        std::uint64_t time = never;
+        EARLIEST_TEST_(earliest_search_departure(&held_.handle, node, &time), earliest_fault{});
+        return time == never ? std::optional<std::uint64_t>() : std::optional<std::uint64_t>(time);
+    }
+    detail::held held_;
 };
 
 }  // namespace throwing or returning
 }  // namespace earliest
 
+#undef EARLIEST_TURN_
 #undef EARLIEST_TEST_
 #undef EARLIEST_DONE_
 #endif

@@ -1,6 +1,7 @@
-// The classes of include/earliest.hpp with exceptions: happy paths, refusals, what moves leave behind, long walks, rows by threads. Exits with 1
-// if a test fails, after its line.
+// The classes of include/earliest.hpp with exceptions: happy paths, refusals, what moves leave behind, long walks, rows by threads, one search in
+// two threads. Exits with 1 if a test fails, after its line.
 #include <array>
+#include <atomic>
 #include <cstdio>
 #include <numeric>
 #include <string>
@@ -29,8 +30,8 @@ template <class Call> static void refused(Call call, std::uint32_t number, const
 // Roads and searches are moved and never copied.
 template <class T> constexpr bool only_moves = !std::is_copy_constructible_v<T> && !std::is_copy_assignable_v<T> && !std::is_constructible_v<T, T &> && !std::is_assignable_v<T &, T &> &&
                                                std::is_nothrow_move_constructible_v<T> && std::is_nothrow_move_assignable_v<T>;
-static_assert(only_moves<earliest::road> && only_moves<earliest::search>);
-static_assert(!std::is_default_constructible_v<earliest::road> && !std::is_default_constructible_v<earliest::search>);
+static_assert(only_moves<earliest::road> && only_moves<earliest::search> && only_moves<earliest::latest>);
+static_assert(!std::is_default_constructible_v<earliest::road> && !std::is_default_constructible_v<earliest::search> && !std::is_default_constructible_v<earliest::latest>);
 
 static const std::string FOUR = "p sp 4 5\na 1 2 7\na 1 3 2\na 3 2 3\na 2 4 1\na 3 4 9\n";
 static const std::vector<std::uint64_t> FROM_1 = {0, 5, 2, 6};
@@ -73,6 +74,24 @@ static void moves() {
     earliest::search &itself = other;
     other = std::move(itself);
     TEST(other.arrivals() == FROM_1);
+
+    // A search for latest departures, too.
+    earliest::latest back(one), until_2(one);
+    back.until({{4, 6}}), until_2.until({{2, 9}});
+    until_2 = std::move(back);
+    TEST(until_2.departures() == FROM_1 && until_2.walk(1) == (std::vector<std::uint32_t>{2, 3, 4}));
+    REFUSED(back.departures(), EARLIEST_NO_SEARCH, NO_SEARCH);
+    REFUSED(back.departure(1), EARLIEST_NO_SEARCH, NO_SEARCH);
+    REFUSED(back.until({{4, 6}}), EARLIEST_NO_SEARCH, NO_SEARCH);
+    REFUSED(back.from(1, {4, 6}), EARLIEST_NO_SEARCH, NO_SEARCH);
+    REFUSED(back.walk(1), EARLIEST_NO_SEARCH, NO_SEARCH);
+    earliest::latest kept(std::move(until_2));
+    TEST(kept.departures() == FROM_1);
+    REFUSED(until_2.departures(), EARLIEST_NO_SEARCH, NO_SEARCH);
+    earliest::latest &as_it_is = kept;
+    kept = std::move(as_it_is);
+    TEST(kept.departures() == FROM_1);
+    REFUSED(earliest::latest(one, false).until({{4, 6}}).walk(1), EARLIEST_NO_WALKS, "the last query found no walks (21 NoWalks)");
     std::vector<earliest::search> searches;
     for (int i = 0; i < 20; i++) searches.emplace_back(one, false);
     TEST(searches[0].from({{1, 0}}).arrivals() == FROM_1);
@@ -206,6 +225,41 @@ static void asked() {
     TEST(moved.arrivals_at({{1, 0}}, {4}) == std::vector<std::uint64_t>{6});
 }
 
+// Two threads call on one search, from node 1 and from node 3: each gets the answer to what it asked, or is refused.
+template <class Call> static void shared(Call call, int line) {
+    std::atomic<int> right{0}, wrong{0};
+    std::vector<std::thread> threads;
+    for (std::uint32_t source : {1u, 3u})
+        threads.emplace_back([&, source] {
+            for (int round = 0; round < 20000; round++) {
+                try {
+                    ++(call(source) ? right : wrong);
+                } catch (const earliest::failure &refused) {
+                    if (refused.number() != EARLIEST_BUSY) ++wrong;
+                    std::this_thread::yield();
+                }
+            }
+        });
+    for (auto &thread : threads) thread.join();
+    if (wrong) std::fprintf(stderr, "%d right, %d wrong\n", right.load(), wrong.load());
+    test(right > 0 && wrong == 0, line);
+}
+
+static void one_search() {
+    const earliest::road road(FOUR);
+    earliest::search search(road, false);
+    earliest::latest latest(road, false);
+    const auto from = [](std::uint32_t source) { return source == 1 ? FROM_1 : std::vector<std::uint64_t>{earliest::never, 3, 0, 4}; };
+    shared([&](std::uint32_t source) { return search.to({source, 0}, 4) == from(source)[3]; }, __LINE__);
+    shared([&](std::uint32_t source) { return search.arrivals_at({{source, 0}}, {1, 2, 3, 4}) == from(source); }, __LINE__);
+    shared([&](std::uint32_t source) {
+        std::vector<std::uint64_t> out(4);
+        search.rows_into({source}, {0}, out);
+        return out == from(source);
+    }, __LINE__);
+    shared([&](std::uint32_t source) { return latest.from(source, {4, 7}) == std::optional<std::uint64_t>(source); }, __LINE__);
+}
+
 int main() {
     moves();
     searches();
@@ -214,5 +268,6 @@ int main() {
     long_walks();
     rows();
     asked();
+    one_search();
     return failed;
 }
