@@ -266,15 +266,17 @@ def long_lines(program, folder):
 
 
 def many_steps(program, folder):
-    """A class of 16 steps and one of 65,536, asked at each arc of a path: the step is found by halves."""
+    """A class of 16 steps and one of 65,536, asked at each arc of a path, forward and turned round: the step is found by halves."""
     nodes = 300_000
     write_path(folder, "steps.gr", nodes)
     for steps in (16, 65_536):
         kind = [f"v {at * 65_536 // steps * 100} 1000\n" for at in range(steps)]
         classes = [f"t {arc} 1\n" for arc in range(1, nodes)]
         write(folder, f"steps{steps}.tp", [f"p tp 1 {nodes - 1}\nk 1 speeds 6553600 {steps}\n", *kind, *classes])
-    few, many = (seconds(program, f"run steps.gr one.ss --tp steps{steps}.tp --workers 1", folder) for steps in (16, 65_536))
-    yield grows("resources: arcs of a class of 65,536 steps beside one of 16", few, many, 3)
+    write(folder, "end.ss", [f"p aux sp ss 1\ns {nodes}\n"])
+    for words in ("run steps.gr one.ss --depart 6000000", "run steps.gr end.ss --arrive 6000000"):
+        few, many = (seconds(program, f"{words} --tp steps{steps}.tp --workers 1", folder) for steps in (16, 65_536))
+        yield grows(f"resources: {words}: arcs of a class of 65,536 steps beside one of 16", few, many, 3)
 
 
 def hard_shapes(program, folder):
