@@ -4,7 +4,7 @@ ghost use denote.Param.Send.{IsSend, IsSync};
 ghost use Rattle.std.specs.Fork.{AcceptsAt, AcceptsChunksMut, AcceptsEach, AllInChunks, ChangesAt, ChangesChunks, ChangesEach};
 ghost use Rattle.std.specs.Fork.Halves.{ChangesByChunks, IsChunked};
 
-use crate::rows::{at_one, parts_from};
+use crate::rows::{Span, at_one, parts_from};
 use std::thread::{Threads, join_mut};
 
 /// Calls f(start, part) for each part of `size` elements of a slice, the last one maybe shorter, each in a
@@ -51,18 +51,15 @@ fn parts_beside<R: Threads + Sync, T: Send, F: Fn(usize, &mut [T]) + Sync, X, B:
         return part_beside(rt, f, base, size, count, row, beside);
     }
     let (first, rest) = row.split_at_mut(size);
-    first_beside_rest(
-        rt,
-        f,
-        size,
-        base,
-        1,
-        first,
-        base + size,
-        count - 1,
-        rest,
-        beside,
-    )
+    let of_first = Span {
+        from: base,
+        count: 1,
+    };
+    let of_rest = Span {
+        from: base + size,
+        count: count - 1,
+    };
+    first_beside_rest(rt, f, size, of_first, first, of_rest, rest, beside)
 }
 
 /// Starts a thread for one part, while this one does other work.
@@ -96,21 +93,27 @@ fn first_beside_rest<R: Threads + Sync, T: Send, F: Fn(usize, &mut [T]) + Sync, 
     rt: &R,
     f: &F,
     size: usize,
-    base: usize,
-    one: usize,
+    of_first: Span,
     first: &mut [T],
-    next: usize,
-    left: usize,
+    of_rest: Span,
     rest: &mut [T],
     beside: &mut B,
 ) -> X
-    requires first { IsChunked (AcceptsAt F.Fn f.now) base size one first.old }
-    requires rest { IsChunked (AcceptsAt F.Fn f.now) next size left rest.old }
+    requires first { IsChunked (AcceptsAt F.Fn f.now) of_first.from size of_first.count first.old }
+    requires rest { IsChunked (AcceptsAt F.Fn f.now) of_rest.from size of_rest.count rest.old }
     requires beside { B.pre beside.old }
-    ensures first { ChangesByChunks (ChangesAt F.Fn f.now) base size first.old first.new }
-    ensures rest { ChangesByChunks (ChangesAt F.Fn f.now) next size rest.old rest.new }
+    ensures first { ChangesByChunks (ChangesAt F.Fn f.now) of_first.from size first.old first.new }
+    ensures rest { ChangesByChunks (ChangesAt F.Fn f.now) of_rest.from size rest.old rest.new }
     ensures beside { B.step beside.old result beside.new }
 {
+    let Span {
+        from: base,
+        count: one,
+    } = of_first;
+    let Span {
+        from: next,
+        count: left,
+    } = of_rest;
     let mut starting = move ||
         requires { IsSync R.row × IsSync F.row × IsSend T.row
             × IsChunked (AcceptsAt F.Fn f.now) base size one first.now }
@@ -119,7 +122,8 @@ fn first_beside_rest<R: Threads + Sync, T: Send, F: Fn(usize, &mut [T]) + Sync, 
     { parts_from(rt, f, base, size, one, first) };
     let mut going_on = move || -> X
         requires { IsSync R.row × IsSync F.row × IsSend T.row
-            × IsChunked (AcceptsAt F.Fn f.now) next size left rest.now × B.pre beside.now }
+            × IsChunked (AcceptsAt F.Fn f.now) next size left rest.now
+            × B.pre beside.now }
         ensures { ChangesByChunks (ChangesAt F.Fn f.entry.now) next size
             rest.entry.now rest.exit.now
             × B.step beside.entry.now result beside.exit.now }

@@ -8,6 +8,13 @@ ghost use Rattle.std.specs.Fork.Halves.{ChangesByChunks, IsChunked};
 
 use std::thread::{Threads, join_mut};
 
+/// Some parts of a slice: the index at which the first of them begins, and how many they are.
+#[derive(Clone, Copy)]
+pub(crate) struct Span {
+    pub from: usize,
+    pub count: usize,
+}
+
 /// Calls f(start, part) for each part of `size` elements of a slice, the last one maybe shorter, each in a
 /// separate thread if one can be started. The last is called in this thread.
 fn for_each_chunk_mut<R: Threads + Sync, T: Send, F: Fn(usize, &mut [T]) + Sync>(
@@ -73,7 +80,15 @@ pub(crate) fn parts_from<R: Threads + Sync, T: Send, F: Fn(usize, &mut [T]) + Sy
         return;
     }
     let (first, rest) = row.split_at_mut(size);
-    first_and_rest(rt, f, size, base, 1, first, base + size, count - 1, rest);
+    let of_first = Span {
+        from: base,
+        count: 1,
+    };
+    let of_rest = Span {
+        from: base + size,
+        count: count - 1,
+    };
+    first_and_rest(rt, f, size, of_first, first, of_rest, rest);
 }
 
 /// Starts a thread for the first part, and continues with the others in this one. A separate function, so
@@ -83,18 +98,24 @@ fn first_and_rest<R: Threads + Sync, T: Send, F: Fn(usize, &mut [T]) + Sync>(
     rt: &R,
     f: &F,
     size: usize,
-    base: usize,
-    one: usize,
+    of_first: Span,
     first: &mut [T],
-    next: usize,
-    left: usize,
+    of_rest: Span,
     rest: &mut [T],
 )
-    requires first { IsChunked (AcceptsAt F.Fn f.now) base size one first.old }
-    requires rest { IsChunked (AcceptsAt F.Fn f.now) next size left rest.old }
-    ensures first { ChangesByChunks (ChangesAt F.Fn f.now) base size first.old first.new }
-    ensures rest { ChangesByChunks (ChangesAt F.Fn f.now) next size rest.old rest.new }
+    requires first { IsChunked (AcceptsAt F.Fn f.now) of_first.from size of_first.count first.old }
+    requires rest { IsChunked (AcceptsAt F.Fn f.now) of_rest.from size of_rest.count rest.old }
+    ensures first { ChangesByChunks (ChangesAt F.Fn f.now) of_first.from size first.old first.new }
+    ensures rest { ChangesByChunks (ChangesAt F.Fn f.now) of_rest.from size rest.old rest.new }
 {
+    let Span {
+        from: base,
+        count: one,
+    } = of_first;
+    let Span {
+        from: next,
+        count: left,
+    } = of_rest;
     let mut starting = ||
         requires { IsSync R.row × IsSync F.row × IsSend T.row
             × IsChunked (AcceptsAt F.Fn f.now) base size one first.now }

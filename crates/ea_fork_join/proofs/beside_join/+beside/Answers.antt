@@ -16,8 +16,8 @@ parts_beside-split_at_mut-first-requires g t c =
     let inside = low_inside _ 1 _ _ (omega (arith, c.requires.row.covers.0)) c.requires.row.covers in
     omega (arith, one-mul c.args.size)
 
-pub parts_beside-overflow_add-base : goal.parts_beside-overflow_add-base
-parts_beside-overflow_add-base g t c =
+pub parts_beside-overflow_add-of_rest : goal.parts_beside-overflow_add-of_rest
+parts_beside-overflow_add-of_rest g t c =
     let inside = low_inside _ 1 _ _ (omega (arith, c.requires.row.covers.0)) c.requires.row.covers in
     record { fits = omega (arith, one-mul c.args.size, c.requires.row.room) }
 

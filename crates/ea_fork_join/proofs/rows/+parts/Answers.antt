@@ -24,8 +24,8 @@ parts_from-split_at_mut-first-requires g t c =
     let inside = low_inside _ 1 _ _ (omega (arith, c.requires.covers.0)) c.requires.covers in
     omega (arith, one-mul c.args.size)
 
-pub parts_from-overflow_add-base : goal.parts_from-overflow_add-base
-parts_from-overflow_add-base g t c =
+pub parts_from-overflow_add-of_rest : goal.parts_from-overflow_add-of_rest
+parts_from-overflow_add-of_rest g t c =
     let inside = low_inside _ 1 _ _ (omega (arith, c.requires.covers.0)) c.requires.covers in
     record { fits = omega (arith, one-mul c.args.size, c.requires.room) }
 

@@ -5,7 +5,7 @@ abbrev pub decreases-parts_from : goal.decreases-parts_from
 decreases-parts_from g l = 4 * l.count
 
 abbrev pub decreases-first_and_rest : goal.decreases-first_and_rest
-decreases-first_and_rest g l = 4 * (l.one + l.left) - 1
+decreases-first_and_rest g l = 4 * (l.of_first.count + l.of_rest.count) - 1
 
 abbrev pub decreases-first_and_rest-starting : goal.decreases-first_and_rest-starting
 decreases-first_and_rest-starting g l = 4 * l.one + 1
