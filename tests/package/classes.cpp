@@ -3,9 +3,28 @@
 #include <array>
 #include <atomic>
 #include <cstdio>
+#include <functional>
 #include <numeric>
 #include <string>
 #include <thread>
+#include <utility>
+
+#include "earliest.h"
+
+// What is done once before a call of earliest.h that reads an answer, so after the call that made it.
+static std::function<void()> between;
+template <class Read, class... Arguments> static std::uint32_t after_between(Read read, Arguments... arguments) {
+    if (auto now = std::exchange(between, nullptr)) now();
+    return read(arguments...);
+}
+#undef earliest_search_arrival
+#define earliest_search_arrival(...) after_between(earliest_search_arrival_alone, __VA_ARGS__)
+#undef earliest_search_arrivals
+#define earliest_search_arrivals(...) after_between(earliest_search_arrivals_alone, __VA_ARGS__)
+#undef earliest_search_answers
+#define earliest_search_answers(...) after_between(earliest_search_answers_alone, __VA_ARGS__)
+#undef earliest_search_departure
+#define earliest_search_departure(...) after_between(earliest_search_departure_alone, __VA_ARGS__)
 
 #include "earliest.hpp"
 
@@ -245,19 +264,35 @@ template <class Call> static void shared(Call call, int line) {
     test(right > 0 && wrong == 0, line);
 }
 
+// A call is right, and another thread's call on the same search, between the two calls of earliest.h that the first one makes, is refused.
+template <class Call, class Other> static void apart(Call call, Other other, int line) {
+    bool is_refused = false;
+    between = [&] {
+        std::thread([&] {
+            try {
+                other();
+            } catch (const earliest::failure &refused) {
+                is_refused = refused.number() == EARLIEST_BUSY;
+            }
+        }).join();
+    };
+    const bool is_right = call();
+    test(is_right && is_refused && !between, line);
+}
+
 static void one_search() {
     const earliest::road road(FOUR);
     earliest::search search(road, false);
     earliest::latest latest(road, false);
-    const auto from = [](std::uint32_t source) { return source == 1 ? FROM_1 : std::vector<std::uint64_t>{earliest::never, 3, 0, 4}; };
-    shared([&](std::uint32_t source) { return search.to({source, 0}, 4) == from(source)[3]; }, __LINE__);
-    shared([&](std::uint32_t source) { return search.arrivals_at({{source, 0}}, {1, 2, 3, 4}) == from(source); }, __LINE__);
-    shared([&](std::uint32_t source) {
-        std::vector<std::uint64_t> out(4);
-        search.rows_into({source}, {0}, out);
-        return out == from(source);
-    }, __LINE__);
-    shared([&](std::uint32_t source) { return latest.from(source, {4, 7}) == std::optional<std::uint64_t>(source); }, __LINE__);
+    shared([&](std::uint32_t source) { return search.to({source, 0}, 4) == (source == 1 ? 6u : 4u); }, __LINE__);
+    const auto from_3 = [&] { search.from({{3, 0}}); };
+    apart([&] { return search.to({1, 0}, 4) == FROM_1[3]; }, from_3, __LINE__);
+    std::vector<std::uint64_t> out(4);
+    apart([&] { return search.rows_into({1}, {0}, out), out == FROM_1; }, from_3, __LINE__);
+    const auto asking_3 = [&] { search.arrivals_at({{3, 0}}, {4, 3, 2, 1}); };
+    apart([&] { return search.arrivals_at({{1, 0}}, {1, 2, 3, 4}) == FROM_1; }, asking_3, __LINE__);
+    apart([&] { return search.arrivals_at_into({{1, 0}}, {1, 2, 3, 4}, out), out == FROM_1; }, asking_3, __LINE__);
+    apart([&] { return latest.from(1, {4, 7}) == std::optional<std::uint64_t>(1); }, [&] { latest.from(3, {4, 7}); }, __LINE__);
 }
 
 int main() {

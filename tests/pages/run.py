@@ -138,6 +138,34 @@ def numbers_in_prose():
         yield f"some page says how many: {name}", count > 0
 
 
+def numbers_of(path):
+    """The constants of a file with Rattle code that are whole numbers, by name."""
+    return {name: int(value.replace("_", "")) for name, value in re.findall(r"(?m)^pub const (\w+): \w+ = ([\d_]+);", text_of(path))}
+
+
+def help_has_the_values():
+    """The help of each option has the limits and the default of the code, and no option with a number is
+    left out here."""
+    known = numbers_of("crates/ea_base/src/limits.rt") | numbers_of("crates/ea_options/src/defaults.rt")
+    ranges = {
+        "workers": (1, known["MOST_WORKERS"]), "at-once": (1, known["MOST_AT_ONCE"]), "batch": (1, known["MOST_BATCH"]),
+        "heaps": (known["LEAST_HEAPS"], known["MOST_HEAPS"]), "turns": (0, known["MOST_TURNS"]), "seed": (0, 2**64 - 1),
+        "depart": (0, known["HORIZON"]), "gap": (0, known["HORIZON"]), "arrive": (0, known["HORIZON"]),
+    }
+    defaults = {
+        "heaps": f"[default: {known['DEFAULT_HEAPS']}]", "turns": f"[default: {known['DEFAULT_TURNS']}]", "seed": f"[default: {known['DEFAULT_SEED']}]",
+        "batch": f"[default: 1 with one worker, else {known['DEFAULT_BATCH']}]", "depart": f"[default: {known['DEFAULT_DEPARTURE']}]",
+        "gap": f"[default: {known['DEFAULT_GAP']}]", "workers": f"[default: 1 with --at-once above 1, else {known['DEFAULT_COUNTED_WORKERS']} with --stats",
+    }
+    said = dict(re.findall(r'"([a-z-]+)",\s*"[A-Z]+",\s*"([^"]+)",', text_of("crates/ea_options/src/arguments.rt")))
+    for name, (least, most) in ranges.items():
+        yield f"help of --{name}: {least} to {most}", re.search(rf"\b{least} to {most}\b", said.get(name, "")) is not None
+    for name, default in defaults.items():
+        yield f"help of --{name}: {default}", default in said.get(name, "")
+    for name, text in said.items():
+        yield f"help of --{name}: its numbers are looked at", name in ranges or re.search(r"\d to \d", text) is None
+
+
 def names_are_there():
     """The crates, files and scripts that pages name exist."""
     listed, everything = set(crates()), found("**/*")
@@ -295,7 +323,7 @@ def runs_end_so(program):
 
 def main(words):
     passed = failed = 0
-    checks = [decisions_are_there, constants_are_equal, numbers_in_prose, names_are_there, identifiers_are_there, links_lead_somewhere,
+    checks = [decisions_are_there, constants_are_equal, numbers_in_prose, help_has_the_values, names_are_there, identifiers_are_there, links_lead_somewhere,
               crates_say_one_thing, pages_are_short, words_are_plain, words_are_swept, run_is_drawn, decisions_are_short]
     found_by = [(check.__name__, check()) for check in checks]
     if words:

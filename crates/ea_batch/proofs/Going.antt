@@ -7,17 +7,17 @@ use Rattle.ea_load.specs.declared.answer_fault.AnswerFault.{AnswerFault}
 use Rattle.ea_load.specs.declared.answer_fault.AnswerFault.TheVariants.{OutOfMemory}
 use Rattle.ea_report.specs.Asked.{Shape}
 use Rattle.ea_batch.specs.declared.draft.Job.{Job}
-use Rattle.ea_batch.specs.Drafts.{GoesOn, StopsAfter}
+use Rattle.ea_batch.specs.Drafts.{SendsUpTo, StopsAfter}
 use Rattle.ea_batch.specs.Sent.{AreCutShort}
 use Rattle.ea_batch.proofs.Sent.{sent_none, stops}
 
 -- Nothing was sent.
-pub goes_nowhere : (job : Job) (from : ℕ) (now : Seen) (written : ℕ) → GoesOn job from from now written now written
+pub goes_nowhere : (job : Job) (from : ℕ) (now : Seen) (written : ℕ) → SendsUpTo job from from now written now written
 goes_nowhere job from now written = record { sent = λ first fits before. before }
 
-module _ (job : Job) (from mid : ℕ) (old between now : Seen) (before written : ℕ) (went : GoesOn job from mid old before between written) where
+module _ (job : Job) (from mid : ℕ) (old between now : Seen) (before written : ℕ) (went : SendsUpTo job from mid old before between written) where
   -- More was sent.
-  pub goes_further : (to after : ℕ) → GoesOn job mid to between written now after → GoesOn job from to old before now after
+  pub goes_further : (to after : ℕ) → SendsUpTo job mid to between written now after → SendsUpTo job from to old before now after
   goes_further to after more = record { sent = λ first fits sent. more.sent first fits (went.sent first fits sent) }
 
   -- Then it stopped.

@@ -63,7 +63,7 @@ pub record MayMake (job : Job) (last : Option Searching) : Type 0 where
   pub search : IfSome last (Serves job.road.now.network job.shown.style.walks)
 
 -- The reports of the problems from one up to another were sent, if those before them were.
-pub record GoesOn (job : Job) (from to : ℕ) (before : Seen) (written : ℕ) (now : Seen) (after : ℕ) : Type 0 where
+pub record SendsUpTo (job : Job) (from to : ℕ) (before : Seen) (written : ℕ) (now : Seen) (after : ℕ) : Type 0 where
   pub sent : (first : Seen) → first.interrupted < 2 ^ 64
       → AreSent (shape_of job.shown) job.road.now.network (times_on job.road.now) (take from job.queries.now) first before written
       → AreSent (shape_of job.shown) job.road.now.network (times_on job.road.now) (take to job.queries.now) first now after
@@ -93,7 +93,7 @@ pub record CanSend (job : Job) (from : ℕ) (progress : Progress) (pile : List M
 
 -- The reports of the problems from one up to another were sent, and those from there on can be.
 pub record HaveGone (job : Job) (from to : ℕ) (old : Seen) (before : Progress) (now : Seen) (after : Progress) (pile : List Made) : Type 0 where
-  pub went : GoesOn job from to old before.written now after.written
+  pub went : SendsUpTo job from to old before.written now after.written
   pub onward : from ≤ to
   pub can : CanSend job to after pile
 
@@ -106,7 +106,7 @@ pub record StopsAfter (job : Job) (from : ℕ) (before : Seen) (written : ℕ) (
 
 -- The reports of the problems from one up to another were sent.
 pub record IsPartSent (job : Job) (from to : ℕ) (old : Seen) (before : Progress) (now : Seen) (after : Progress) : Type 0 where
-  pub went : GoesOn job from to old before.written now after.written
+  pub went : SendsUpTo job from to old before.written now after.written
   pub stands : StandsAt job to after
 
 -- They were sent, or a fault stopped them.

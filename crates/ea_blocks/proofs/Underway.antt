@@ -10,7 +10,7 @@ use Rattle.ea_blocks.specs.declared.blocks.Blocks.{Blocks}
 use Rattle.ea_blocks.specs.declared.blocks.ReadFault.{ReadFault}
 use Rattle.ea_blocks.specs.declared.blocks.ReadFault.TheVariants.{TooLarge}
 use Rattle.ea_blocks.specs.Reading.{lines_after}
-use Rattle.ea_blocks.specs.Streams.{EndsLine, FeedsOn, HasFed, IsUnderway, IsWhole}
+use Rattle.ea_blocks.specs.Streams.{EndsLine, FeedsOn, HasFed, IsReadUpTo, IsWhole}
 use Rattle.ea_blocks.proofs.Cuts.{both_end, nothing_ends}
 use Rattle.ea_blocks.proofs.Steps.{Step}
 use Rattle.ea_blocks.specs.declared.fault.InputFault.{InputFault}
@@ -22,18 +22,18 @@ nothing_fed step start = (refl, refl)
 
 -- The first block.
 pub begun : {S : Type 0} (step : Step S) (start : S) (limit : ℕ) (first now : Seen) (blocks after : Blocks) (none block : List ℕ) → none ≡ [] → IsTakenBy blocks limit first first []
-    → GoesOnTaking first blocks now after none block → IsUnderway step start limit first now start 0 None after block
+    → GoesOnTaking first blocks now after none block → IsReadUpTo step start limit first now start 0 None after block
 begun step start limit first now blocks after none block empty new goes =
     ([], nothing_ends, nothing_fed step start, omega arith, from_start limit first now blocks.left blocks.interruptions after.left after.interruptions none block empty goes new)
 
 -- The same of a reader for which nothing waits.
 pub begun_with : {S : Type 0} (step : Step S) (start : S) (limit : ℕ) (first now : Seen) (after : Blocks) (waiting block : List ℕ) (other : S) (lines : ℕ) (fault : Option InputFault)
-    → waiting ≡ [] → other ≡ start → lines ≡ 0 → fault ≡ None → IsUnderway step start limit first now start 0 None after block → IsUnderway step start limit first now other lines fault after (waiting ++ block)
+    → waiting ≡ [] → other ≡ start → lines ≡ 0 → fault ≡ None → IsReadUpTo step start limit first now start 0 None after block → IsReadUpTo step start limit first now other lines fault after (waiting ++ block)
 begun_with step start limit first now after waiting block other lines fault none same zero sound is =
-    subst (λ w. IsUnderway step start limit first now other lines fault after (w ++ block)) (sym none)
-    (subst (λ s. IsUnderway step start limit first now s lines fault after block) (sym same)
-    (subst (λ n. IsUnderway step start limit first now start n fault after block) (sym zero)
-    (subst (λ f. IsUnderway step start limit first now start 0 f after block) (sym sound) is)))
+    subst (λ w. IsReadUpTo step start limit first now other lines fault after (w ++ block)) (sym none)
+    (subst (λ s. IsReadUpTo step start limit first now s lines fault after block) (sym same)
+    (subst (λ n. IsReadUpTo step start limit first now start n fault after block) (sym zero)
+    (subst (λ f. IsReadUpTo step start limit first now start 0 f after block) (sym sound) is)))
 
 -- Fewer bytes are left for a block that is not the last, and a block that is the last comes once.
 pub smaller : (ended now : Bool) (left after tail grown size : ℕ) → ended ≡ false → grown + after ≡ tail + left → (now ≡ false → size ≤ grown) → tail < size → tail ≤ grown
@@ -53,13 +53,13 @@ taken_behind old new blocks after front block grown goes = (goes.0, ap (λ l. fr
 
 -- The lines of what is at hand can be counted.
 pub few_lines : {S : Type 0} (step : Step S) (start : S) (limit : ℕ) (first now : Seen) (state : S) (lines : ℕ) (fault : Option InputFault) (blocks : Blocks) (hand : List ℕ)
-    → IsUnderway step start limit first now state lines fault blocks hand → lines + length hand ≤ limit
+    → IsReadUpTo step start limit first now state lines fault blocks hand → lines + length hand ≤ limit
 few_lines step start limit first now state lines fault blocks hand is = omega (arith, is.3, is.4.within, length-append is.0 hand)
 
 -- Some of what is at hand is given to a reader, and more bytes are taken.
 pub went_on : {S : Type 0} (step : Step S) (start : S) (limit : ℕ) (first now next : Seen) (state last : S) (lines count : ℕ) (fault known : Option InputFault) (blocks after : Blocks) (block front rest grown kept : List ℕ)
-    → IsUnderway step start limit first now state lines fault blocks block → EndsLine front → block ≡ front ++ rest → FeedsOn step state lines fault last count known front
-    → GoesOnTaking now blocks next after rest grown → kept ≡ grown → IsUnderway step start limit first next last count known after kept
+    → IsReadUpTo step start limit first now state lines fault blocks block → EndsLine front → block ≡ front ++ rest → FeedsOn step state lines fault last count known front
+    → GoesOnTaking now blocks next after rest grown → kept ≡ grown → IsReadUpTo step start limit first next last count known after kept
 went_on step start limit first now next state last lines count fault known blocks after block front rest grown kept is ends cut fed goes swapped =
     let before = is.0 in
     let taken = goes.2 limit first (before ++ block) is.4 in
@@ -80,12 +80,12 @@ pub never_begun : (limit : ℕ) (first now : Seen) (blocks : Blocks) (fault : Re
 never_begun limit first now blocks fault new stops = let why = stops limit first [] new in (why.counts, why.too_large)
 
 pub broken_off : {S : Type 0} (step : Step S) (start : S) (limit : ℕ) (first now next : Seen) (state : S) (lines : ℕ) (known : Option InputFault) (blocks : Blocks) (block : List ℕ) (fault : ReadFault)
-    → IsUnderway step start limit first now state lines known blocks block → StopsTaking now blocks next fault → IsWhy fault limit first next
+    → IsReadUpTo step start limit first now state lines known blocks block → StopsTaking now blocks next fault → IsWhy fault limit first next
 broken_off step start limit first now next state lines known blocks block fault is stops = let why = stops limit first (is.0 ++ block) is.4 in (why.counts, why.too_large)
 
 -- All lines are read, and the device has ended.
 pub all_read : {S : Type 0} (step : Step S) (start : S) (limit : ℕ) (first now : Seen) (state last : S) (lines count : ℕ) (fault known : Option InputFault) (blocks : Blocks) (block shown : List ℕ)
-    → IsUnderway step start limit first now state lines fault blocks block → IsAtEnd now.bytes → shown ≡ block → FeedsOn step state lines fault last count known shown
+    → IsReadUpTo step start limit first now state lines fault blocks block → IsAtEnd now.bytes → shown ≡ block → FeedsOn step state lines fault last count known shown
     → (text : List ℕ) × IsWhole limit first now text × HasFed step start text last count known
 all_read step start limit first now state last lines count fault known blocks block shown is end same fed =
     let text = is.0 ++ block in (

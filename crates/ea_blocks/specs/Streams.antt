@@ -54,8 +54,8 @@ pub record IsFilled (size : ℕ) (old : Seen) (blocks : Blocks) (new : Seen) (af
   pub fault : IfErr result (StopsTaking old blocks new)
 
 -- A device is read up to here: a reader was given the lines of these bytes, and what follows them is at hand.
-abbrev pub IsUnderway : {S : Type 0} → (S → List (List ℕ) → Result S FaultKind) → S → ℕ → Seen → Seen → S → ℕ → Option InputFault → Blocks → List ℕ → Type 0
-IsUnderway step start limit first now state lines fault blocks block =
+abbrev pub IsReadUpTo : {S : Type 0} → (S → List (List ℕ) → Result S FaultKind) → S → ℕ → Seen → Seen → S → ℕ → Option InputFault → Blocks → List ℕ → Type 0
+IsReadUpTo step start limit first now state lines fault blocks block =
     (before : List ℕ) × EndsLine before × HasFed step start before state lines fault × (lines ≤ length before) × IsTakenBy blocks limit first now (before ++ block)
 
 -- The result if the lines so far are all.

@@ -1,11 +1,12 @@
 -- What a caller learns from the checker of reports.
-use Rattle.std.specs.Prelude.{◌≡◌, ◌≤◌, ◌<◌, ℕ, All, List, length, Ok, Err, Option, Some, None, nat_lt}
+use Rattle.std.specs.Prelude.{◌≡◌, ◌+◌, ◌≤◌, ◌<◌, ℕ, All, List, length, Ok, Err, Option, Some, None, nat_lt, unwrap_or}
 use Rattle.ea_base.specs.declared.limits.TheConstants.{HORIZON}
 use Rattle.ea_road.specs.declared.source.Source.{Source}
 use Rattle.ea_road.specs.Queries.{Asking}
 use Rattle.ea_check.specs.declared.fault.CheckFault.{CheckFault}
-use Rattle.ea_check.specs.declared.fault.CheckFault.TheVariants.{BadLine, NotAttained, NotLeast, OutOfMemory, NotCanonical}
+use Rattle.ea_check.specs.declared.fault.CheckFault.TheVariants.{OutOfMemory}
 use Rattle.ea_check.specs.Checked.{AreCheckable, IsChecked, sources_of}
+use Rattle.ea_check.specs.FaultNames.{fault_line, fault_number}
 use Rattle.ea_check.specs.Form.{Line}
 use Rattle.ea_load.specs.declared.road.Road.{Road}
 use Rattle.ea_base.specs.declared.direction.Direction.TheVariants.{Forward}
@@ -17,11 +18,8 @@ use Rattle.ea_capi.specs.Sessions.{answers_on}
 
 -- A report's fault: its line, and 30 plus its number.
 abbrev pub told_of_check : CheckFault → Fault
-told_of_check (BadLine line) = record { line = line; number = 31; text = 3 }
-told_of_check (NotAttained line) = record { line = line; number = 32; text = 3 }
-told_of_check (NotLeast line) = record { line = line; number = 33; text = 3 }
 told_of_check OutOfMemory = record { line = 0; number = 13; text = 0 }
-told_of_check (NotCanonical line) = record { line = line; number = 35; text = 3 }
+told_of_check fault = record { line = unwrap_or (fault_line fault) 0; number = 30 + fault_number fault; text = 3 }
 
 -- The report is right; or this is its first fault; or memory was refused.
 pub data IsVerdict (road : Road) (queries : List (List Source)) (lines : List Line) (fault : Fault) : Type 0 where

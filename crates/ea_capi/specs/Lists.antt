@@ -10,7 +10,7 @@ use Rattle.ea_load.specs.declared.file_fault.FileFault.{FileFault}
 use Rattle.ea_load.specs.Given.{IsTableOf}
 use Rattle.ea_load.specs.Texts.{IsTableFault, text_if_any}
 use Rattle.ea_capi.specs.declared.handle.content.Content.{Content}
-use Rattle.ea_capi.specs.declared.road.arc_lists.Lists.{Lists}
+use Rattle.ea_capi.specs.declared.road.arc_lists.ArcColumns.{ArcColumns}
 use Rattle.ea_capi.specs.declared.fault_numbers.Fault.{Fault}
 use Rattle.ea_capi.specs.Checks.{refused_by}
 use Rattle.ea_capi.specs.Faults.{told, no_fault}
@@ -23,7 +23,7 @@ pub record ArcLists : Type 0 where
   pub weights : List ℕ
   pub classes : List ℕ
 
-abbrev pub arc_lists : Lists → ArcLists
+abbrev pub arc_lists : ArcColumns → ArcLists
 arc_lists lists = record { tails = lists.tails.now; heads = lists.heads.now; weights = lists.weights.now; classes = lists.classes.now }
 
 -- The lists have one length; that of classes may be empty.

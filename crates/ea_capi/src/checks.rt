@@ -31,29 +31,17 @@ fn tell_of_check(fault: CheckFault) -> Fault
     ensures { result ≡ told_of_check fault }
 {
     match fault {
-        CheckFault::BadLine(line) => Fault {
-            line,
-            number: 31,
-            text: 3,
-        },
-        CheckFault::NotAttained(line) => Fault {
-            line,
-            number: 32,
-            text: 3,
-        },
-        CheckFault::NotLeast(line) => Fault {
-            line,
-            number: 33,
-            text: 3,
-        },
         CheckFault::OutOfMemory => Fault {
             line: 0,
             number: OUT_OF_MEMORY,
             text: 0,
         },
-        CheckFault::NotCanonical(line) => Fault {
+        CheckFault::BadLine(line)
+        | CheckFault::NotAttained(line)
+        | CheckFault::NotLeast(line)
+        | CheckFault::NotCanonical(line) => Fault {
             line,
-            number: 35,
+            number: 30 + u32::from(fault.number()),
             text: 3,
         },
     }

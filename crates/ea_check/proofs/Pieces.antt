@@ -4,7 +4,7 @@ use Rattle.std.proofs.lemmas.List.{drop-append-le, take-append-drop, take-take}
 use Rattle.std.specs.Prelude.{Option, Some, None, IfSome}
 use Rattle.ea_base.specs.declared.direction.Direction.{Direction}
 use Rattle.ea_bytes.specs.Text.{field_lines}
-use Rattle.ea_check.specs.declared.form.run.Found.{Found}
+use Rattle.ea_check.specs.declared.form.run.LinesFound.{LinesFound}
 use Rattle.ea_check.specs.Form.{spoken_from}
 use Rattle.ea_check.specs.Pieces.{AreFound, AreIn}
 use Rattle.ea_check.specs.Reads.{NoWalkNext}
@@ -16,7 +16,7 @@ no_walk_on : (way : Direction) (text behind : List ℕ) → BeginsWithNoWalk way
 no_walk_on way text behind quiet = λ more number. subst (λ (l : List ℕ). NoWalkNext (spoken_from way number (field_lines l))) (sym (append_assoc text behind more)) (quiet (behind ++ more) number)
 
 -- What a part of a text begins with, the text begins with.
-pub are_in_all : (way : Direction) (text : List ℕ) (size last : ℕ) (times : List ℕ) (found : Found) → AreIn way (take size text) last times found → AreIn way text last times found
+pub are_in_all : (way : Direction) (text : List ℕ) (size last : ℕ) (times : List ℕ) (found : LinesFound) → AreIn way (take size text) last times found → AreIn way text last times found
 are_in_all way text size last times found are =
     let bytes = found.bytes in
     let long = length-take size text in
@@ -30,12 +30,12 @@ are_in_all way text size last times found are =
       few = are.few;
     }
 
-pub found_in : (way : Direction) (text : List ℕ) (from size last : ℕ) (times : List ℕ) (found : Option Found) → IfSome found (λ f. AreIn way (take size (drop from text)) last times f) → AreFound way text last times from found
+pub found_in : (way : Direction) (text : List ℕ) (from size last : ℕ) (times : List ℕ) (found : Option LinesFound) → IfSome found (λ f. AreIn way (take size (drop from text)) last times f) → AreFound way text last times from found
 found_in way text from size last times None are = tt
 found_in way text from size last times (Some found) are = are_in_all way (drop from text) size last times found are
 
 -- The lines of a part, behind a line that ends at its first byte.
-pub joined : (way : Direction) (text : List ℕ) (last : ℕ) (before found : Found) (times more new : List ℕ) (time size node from : ℕ) → AreIn way text last times before → AreIn way (drop from text) last more found
+pub joined : (way : Direction) (text : List ℕ) (last : ℕ) (before found : LinesFound) (times more new : List ℕ) (time size node from : ℕ) → AreIn way text last times before → AreIn way (drop from text) last more found
     → TakesTime way node time (take (length text - before.bytes) (drop before.bytes text)) size → node ≡ before.first + length times → before.bytes + size ≡ from → node + 1 ≡ found.first → new ≡ (times ++ time ∷ []) ++ more
     → AreIn way text last new (record { first = before.first; bytes = from + found.bytes })
 joined way text last before found times more new time size node from was are takes here ends next grown =

@@ -4,7 +4,7 @@ ghost use Rattle.ea_options.specs.Limits.{HasLimits};
 
 use crate::arguments::words_of;
 use crate::descriptors::hold_descriptors;
-use crate::files::{Names, names_of, open_all, open_output};
+use crate::files::{CommandFiles, files_of, open_all, open_output};
 use crate::messages::{refuse, tell, tell_end, tell_unopened};
 use crate::pages::{explain_fault, show_text};
 use crate::progress_line::{Line, tells_progress};
@@ -49,7 +49,7 @@ fn carry_out<H: Threads + Sync>(
 ) -> u8
     requires { HasLimits command.now }
 {
-    match names_of(command) {
+    match files_of(command) {
         Some(names) => carry_out_with(rt, threads, command, names, explains),
         None => match command {
             Command::Explain { fault } => explain_fault(rt, *fault),
@@ -64,7 +64,7 @@ fn carry_out_with<H: Threads + Sync>(
     rt: &HostRuntime,
     threads: &H,
     command: &Command<'_>,
-    names: Names<'_>,
+    names: CommandFiles<'_>,
     explains: bool,
 ) -> u8
     requires limits { HasLimits command.now }

@@ -6,7 +6,7 @@ use ea_blocks::{InputFault, ReadFault};
 use ea_bytes::without_return;
 use ea_check::CheckFault;
 use ea_load::{AnswerFault, FileWord};
-use ea_messages::{Outcome, fault_named, look_of, reason_of, wanted_of_line};
+use ea_messages::{Outcome, encoding_of, fault_named, reason_of, wanted_of_line};
 use ea_options::{Allowed, BadValue, bad_value_of};
 use std::io::ErrorKind;
 
@@ -113,8 +113,8 @@ fn show_line(rt: &HostRuntime, source: &mut Source<'_>, number: u64) -> Option<V
 
 /// What is wrong with a file's text.
 fn explain_text(rt: &HostRuntime, file: FileWord, fault: InputFault, source: &mut Source<'_>) {
-    if let Some(look) = look_of(source.front()) {
-        remark_on(rt, source.name, look.advice());
+    if let Some(encoding) = encoding_of(source.front()) {
+        remark_on(rt, source.name, encoding.advice());
         return;
     }
     let line = show_line(rt, source, fault.line);

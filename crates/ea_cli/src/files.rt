@@ -20,7 +20,7 @@ pub struct Unopened<'a> {
 
 /// The names of a command's files.
 #[derive(Clone, Copy)]
-pub struct Names<'a> {
+pub struct CommandFiles<'a> {
     gr: &'a str,
     /// Which file names the sources or pairs.
     word: FileWord,
@@ -35,7 +35,7 @@ pub struct Names<'a> {
 }
 
 /// The names of a command's files; none if it names no files.
-pub fn names_of<'a>(command: &Command<'a>) -> Option<Names<'a>>
+pub fn files_of<'a>(command: &Command<'a>) -> Option<CommandFiles<'a>>
     ensures { MatchOption result (Rattle.std.specs.Prelude.⊤)
         (λ names. HasFiles command.now names.report) }
 {
@@ -49,7 +49,7 @@ pub fn names_of<'a>(command: &Command<'a>) -> Option<Names<'a>>
             nodes,
             output,
             ..
-        } => Some(Names {
+        } => Some(CommandFiles {
             gr,
             word: FileWord::Ss,
             starts: ss,
@@ -65,7 +65,7 @@ pub fn names_of<'a>(command: &Command<'a>) -> Option<Names<'a>>
             tp,
             output,
             ..
-        } => Some(Names {
+        } => Some(CommandFiles {
             gr,
             word: FileWord::Ss,
             starts: ss,
@@ -82,7 +82,7 @@ pub fn names_of<'a>(command: &Command<'a>) -> Option<Names<'a>>
             times,
             output,
             ..
-        } => Some(Names {
+        } => Some(CommandFiles {
             gr,
             word: FileWord::P2p,
             starts: p2p,
@@ -99,7 +99,7 @@ pub fn names_of<'a>(command: &Command<'a>) -> Option<Names<'a>>
             times,
             report,
             ..
-        } => Some(Names {
+        } => Some(CommandFiles {
             gr,
             word: FileWord::Ss,
             starts: ss,
@@ -150,7 +150,7 @@ fn open_if_named<'a>(
 }
 
 /// Opens the files of a command, in their order.
-pub fn open_all<'a>(rt: &HostRuntime, names: &Names<'a>) -> Result<Sources<'a>, Unopened<'a>>
+pub fn open_all<'a>(rt: &HostRuntime, names: &CommandFiles<'a>) -> Result<Sources<'a>, Unopened<'a>>
     ensures { IfOk result (λ files. is_some files.report ≡ is_some names.now.report) }
 {
     let gr = open(rt, FileWord::Gr, names.gr)?;
@@ -171,7 +171,7 @@ pub fn open_all<'a>(rt: &HostRuntime, names: &Names<'a>) -> Result<Sources<'a>, 
 }
 
 /// Opens what the report goes to. If that fails, the error has the reason.
-pub fn open_output<'a>(rt: &HostRuntime, names: &Names<'a>) -> Result<Output, Unopened<'a>> {
+pub fn open_output<'a>(rt: &HostRuntime, names: &CommandFiles<'a>) -> Result<Output, Unopened<'a>> {
     match Output::open(rt, names.output) {
         Ok(output) => Ok(output),
         Err(reason) => Err(Unopened {

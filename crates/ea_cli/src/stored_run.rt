@@ -2,6 +2,7 @@
 use crate::messages::tell;
 use crate::output::Output;
 use ea_bytes::StdIn;
+use ea_options::{DEFAULT_DEPARTURE, DEFAULT_GAP, DEFAULT_HEAPS, DEFAULT_SEED, DEFAULT_TURNS};
 use earliest::{AnswerFault, Direction, OptionalFiles, Outcome, RunOptions, answer};
 use std::io::IsTerminal;
 use std::thread::Threads;
@@ -20,11 +21,11 @@ const DEFAULTS: RunOptions = RunOptions {
     at_once: None,
     batch: None,
     prepare: None,
-    heaps: 2,
-    turns: 1_000_000,
-    seed: 1,
-    depart: 0,
-    gap: 0,
+    heaps: DEFAULT_HEAPS,
+    turns: DEFAULT_TURNS,
+    seed: DEFAULT_SEED,
+    depart: DEFAULT_DEPARTURE,
+    gap: DEFAULT_GAP,
     direction: Direction::Forward,
 };
 

@@ -4,7 +4,7 @@ use Rattle.std.specs.List.Sorted.{IsNonDecreasingBy}
 use Rattle.ea_hierarchy.specs.Hierarchies.{IsFrom, Joins}
 use Rattle.ea_hierarchy.specs.Numbers.{plus}
 use Rattle.ea_hierarchy.specs.declared.trimmed.Link.{Link}
-use Rattle.ea_hierarchy.specs.declared.trimmed.Row.{Row}
+use Rattle.ea_hierarchy.specs.declared.trimmed.LeftArcs.{LeftArcs}
 
 -- The arc at a place is replaced by an earlier one of its rank and one from there to its head: together they are no longer.
 pub record IsReplaced (firsts heads numbers : List ℕ) (rank place : ℕ) : Type 0 where
@@ -38,8 +38,8 @@ pub record IsTrimmed (firsts heads numbers : List ℕ) (rank : ℕ) (links : Lis
   pub rest : (place : ℕ) → IsFrom firsts rank place → Contains links (record { head = slice_index heads place; number = slice_index numbers place }) ⊎ IsReplaced firsts heads numbers rank place
 
 -- Each row has the arcs that are left of its rank.
-pub record AreTrimmed (firsts heads numbers : List ℕ) (rows : List Row) : Type 0 where
-  pub each : (row : Row) → Contains rows row → IsTrimmed firsts heads numbers row.rank row.links.items
+pub record AreTrimmed (firsts heads numbers : List ℕ) (rows : List LeftArcs) : Type 0 where
+  pub each : (row : LeftArcs) → Contains rows row → IsTrimmed firsts heads numbers row.rank row.links.items
 
 -- A number is the least of another and of those over links.
 pub record IsLeastBy (bound : ℕ → ℕ) (links : List Link) (reach least : ℕ) : Type 0 where

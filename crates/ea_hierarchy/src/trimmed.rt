@@ -20,7 +20,7 @@ pub(crate) struct Link {
 
 /// The arcs of a rank that are left.
 #[derive(Drop)]
-pub(crate) struct Row {
+pub(crate) struct LeftArcs {
     rank: u32,
     links: Vec<Link>,
 }
@@ -31,7 +31,7 @@ pub(crate) struct Row {
 pub(crate) struct Trimmed {
     alloc: Global,
     hints: Vec<usize>,
-    rows: Vec<Row>,
+    rows: Vec<LeftArcs>,
     /// How many arcs are in no row of their ranks.
     pub(crate) left_out: u64,
 }
@@ -157,7 +157,7 @@ impl Trimmed {
         if let Some(hint) = self.hints.get_mut(begin / LONG) {
             *hint = row;
         }
-        self.rows.push(Row { rank, links })?;
+        self.rows.push(LeftArcs { rank, links })?;
         Ok(())
     }
 

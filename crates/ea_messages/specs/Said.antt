@@ -1,5 +1,5 @@
 -- The lines for outcomes, and the exit statuses.
-use Rattle.std.specs.Prelude.{ℕ, ◌+◌, ◌-◌, ◌^◌, ◌≤◌, true, List, [], ◌∷◌, Option, Some, None, codes, decimal, if◌then◌else◌}
+use Rattle.std.specs.Prelude.{ℕ, ◌+◌, ◌-◌, ◌^◌, ◌≤◌, true, List, [], ◌∷◌, Option, Some, None, codes, decimal, if◌then◌else◌, unwrap_or}
 use Rattle.std.specs.List.{flat_map}
 use Rattle.std.specs.Io.KnownBytes.{Appends}
 use Rattle.ea_base.specs.declared.limits.TheConstants.{MOST_INTERRUPTIONS}
@@ -17,34 +17,35 @@ use Rattle.ea_options.specs.declared.fault.CommandFault.{CommandFault}
 use Rattle.ea_options.specs.declared.fault.CommandFault.TheVariants as command
 use Rattle.ea_check.specs.declared.fault.CheckFault.{CheckFault}
 use Rattle.ea_check.specs.declared.fault.CheckFault.TheVariants as checked
+use Rattle.ea_check.specs.FaultNames as report
 use Rattle.ea_load.specs.declared.answer_fault.AnswerFault.{AnswerFault}
 use Rattle.ea_load.specs.declared.answer_fault.AnswerFault.TheVariants.{Read, Input, BadOption, Write, OutOfMemory}
 use Rattle.ea_messages.specs.declared.outcome_lines.Outcome.{Outcome}
 use Rattle.ea_messages.specs.declared.outcome_lines.Outcome.TheVariants.{Command, Unopened, Answer, Accepted, Check}
 
--- Parts of a line, joined.
-abbrev pub joined : List (List ℕ) → List ℕ
-joined parts = flat_map (λ part. part) parts
+-- Parts of a line, concatenated.
+abbrev pub concatenated : List (List ℕ) → List ℕ
+concatenated parts = flat_map (λ part. part) parts
 
 -- `earliest: MESSAGE`
 abbrev pub plain_line : List ℕ → List ℕ
-plain_line message = joined (codes "earliest: " ∷ message ∷ codes "\n" ∷ [])
+plain_line message = concatenated (codes "earliest: " ∷ message ∷ codes "\n" ∷ [])
 
 -- `earliest: FILE: NUMBER NAME`
 abbrev pub file_line : List ℕ → ℕ → List ℕ → List ℕ
-file_line file number name = joined (codes "earliest: " ∷ file ∷ codes ": " ∷ decimal number ∷ codes " " ∷ name ∷ codes "\n" ∷ [])
+file_line file number name = concatenated (codes "earliest: " ∷ file ∷ codes ": " ∷ decimal number ∷ codes " " ∷ name ∷ codes "\n" ∷ [])
 
 -- `earliest: FILE LINE: NUMBER NAME`
 abbrev pub text_line : List ℕ → ℕ → ℕ → List ℕ → List ℕ
-text_line file line number name = joined (codes "earliest: " ∷ file ∷ codes " " ∷ decimal line ∷ codes ": " ∷ decimal number ∷ codes " " ∷ name ∷ codes "\n" ∷ [])
+text_line file line number name = concatenated (codes "earliest: " ∷ file ∷ codes " " ∷ decimal line ∷ codes ": " ∷ decimal number ∷ codes " " ∷ name ∷ codes "\n" ∷ [])
 
 -- `earliest: 12 WriteFailed after N bytes`
 abbrev pub written_line : ℕ → List ℕ
-written_line written = joined (codes "earliest: 12 WriteFailed after " ∷ decimal written ∷ codes " bytes\n" ∷ [])
+written_line written = concatenated (codes "earliest: 12 WriteFailed after " ∷ decimal written ∷ codes " bytes\n" ∷ [])
 
 -- `earliest: check NUMBER NAME line LINE`
-abbrev pub check_line : List ℕ → ℕ → List ℕ
-check_line verdict line = joined (codes "earliest: check " ∷ verdict ∷ codes " line " ∷ decimal line ∷ codes "\n" ∷ [])
+abbrev pub check_line : ℕ → List ℕ → ℕ → List ℕ
+check_line number name line = concatenated (codes "earliest: check " ∷ decimal number ∷ codes " " ∷ name ∷ codes " line " ∷ decimal line ∷ codes "\n" ∷ [])
 
 -- The line for refused memory, wherever it happened.
 abbrev pub memory_line : List ℕ
@@ -77,11 +78,8 @@ answer_line (OutOfMemory written) = memory_line
 
 -- The line of a report that is refused.
 abbrev pub refused_line : CheckFault → List ℕ
-refused_line (checked.BadLine line) = check_line (codes "1 BadLine") line
-refused_line (checked.NotAttained line) = check_line (codes "2 NotAttained") line
-refused_line (checked.NotLeast line) = check_line (codes "3 NotLeast") line
 refused_line checked.OutOfMemory = memory_line
-refused_line (checked.NotCanonical line) = check_line (codes "5 NotCanonical") line
+refused_line fault = check_line (report.fault_number fault) (report.fault_name fault) (unwrap_or (report.fault_line fault) 0)
 
 abbrev pub line_of : Outcome → List ℕ
 line_of (Command fault) = command_line fault

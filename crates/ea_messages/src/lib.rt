@@ -9,7 +9,7 @@ mod opened;
 mod os_reasons;
 mod outcome_lines;
 
-pub use advice::{Look, look_of};
+pub use advice::{Encoding, encoding_of};
 pub use fault_pages::{FAULTS, Fault, fault_named};
 pub use formats::FORMATS;
 pub use line_forms::wanted_of_line;

@@ -103,16 +103,19 @@ fn put_written<W: ByteOut>(written: u128, out: &mut W)
 }
 
 /// Writes the line of a report that is refused at a line.
-fn put_verdict<W: ByteOut>(verdict: &str, line: u64, out: &mut W)
-    ensures { IsSaid (check_line verdict.now line) (W.seen out.old)
+fn put_verdict<W: ByteOut>(number: u8, name: &str, line: u64, out: &mut W)
+    ensures { IsSaid (check_line number name.now line) (W.seen out.old)
         (W.seen out.new) }
 {
     let mut buffer = Buffer::new();
+    let mut line_buffer = Buffer::new();
     let pieces = [
         b"earliest: check ".as_slice(),
-        verdict.as_bytes(),
+        buffer.format(number).as_bytes(),
+        b" ".as_slice(),
+        name.as_bytes(),
         b" line ".as_slice(),
-        buffer.format(line).as_bytes(),
+        line_buffer.format(line).as_bytes(),
         b"\n".as_slice(),
     ];
     put(pieces.as_slice(), out);
@@ -149,11 +152,11 @@ fn say_read<W: ByteOut>(file: FileWord, fault: ReadFault, out: &mut W) -> u8
 {
     match fault {
         ReadFault::TooLarge => {
-            put_file(file.word(), 10, "TooLarge", out);
+            put_file(file.word(), fault.number(), fault.name(), out);
             1
         }
         ReadFault::ReadFailed => {
-            put_file(file.word(), 11, "ReadFailed", out);
+            put_file(file.word(), fault.number(), fault.name(), out);
             4
         }
         ReadFault::OutOfMemory => {
@@ -209,17 +212,21 @@ fn say_check<W: ByteOut>(fault: CheckFault, out: &mut W) -> u8
     ensures line { IsSaid (refused_line fault) (W.seen out.old)
         (W.seen out.new) }
 {
+    let number = fault.number();
+    let name = fault.name();
     match fault {
-        CheckFault::BadLine(line) => put_verdict("1 BadLine", line, out),
-        CheckFault::NotAttained(line) => put_verdict("2 NotAttained", line, out),
-        CheckFault::NotLeast(line) => put_verdict("3 NotLeast", line, out),
-        CheckFault::NotCanonical(line) => put_verdict("5 NotCanonical", line, out),
         CheckFault::OutOfMemory => {
             put_plain("13 OutOfMemory", out);
-            return 3;
+            3
+        }
+        CheckFault::BadLine(line)
+        | CheckFault::NotAttained(line)
+        | CheckFault::NotLeast(line)
+        | CheckFault::NotCanonical(line) => {
+            put_verdict(number, name, line, out);
+            5
         }
     }
-    5
 }
 
 impl Outcome {

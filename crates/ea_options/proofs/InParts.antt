@@ -3,6 +3,7 @@ use Rattle.std.proofs.Common.{◌≡◌, ◌∙◌, ℕ, Bool, List, refl, sym, 
 use Rattle.std.specs.Prelude.{Option, Some, None, codes, unwrap_or}
 use Rattle.ea_base.specs.declared.direction.Direction.{Direction}
 use Rattle.ea_base.specs.declared.limits.TheConstants.{HORIZON, LEAST_HEAPS, MOST_AT_ONCE, MOST_BATCH, MOST_HEAPS, MOST_TURNS, MOST_WORKERS}
+use Rattle.ea_options.specs.declared.defaults.TheConstants.{DEFAULT_DEPARTURE, DEFAULT_GAP, DEFAULT_HEAPS, DEFAULT_SEED, DEFAULT_TURNS}
 use Rattle.clap.specs.Words.{Row}
 use Rattle.ea_options.specs.declared.chosen.Counts.{Counts}
 use Rattle.ea_options.specs.declared.chosen.Departures.{Departures}
@@ -72,8 +73,8 @@ of_parts : (rows : List Row) → options_of rows ≡ joined (counts_of rows) (qu
 unfolding options_of counts_of queue_of departures_of in_turn counted queued departing together
 of_parts rows = in_parts
     (chosen_of (codes "workers") 1 MOST_WORKERS rows) (chosen_of (codes "at-once") 1 MOST_AT_ONCE rows) (chosen_of (codes "batch") 1 MOST_BATCH rows)
-    (option_of (codes "heaps") 2 LEAST_HEAPS MOST_HEAPS rows) (option_of (codes "turns") 1000000 0 MOST_TURNS rows) (option_of (codes "seed") 1 0 18446744073709551615 rows)
-    (option_of (codes "depart") 0 0 HORIZON rows) (chosen_of (codes "arrive") 0 HORIZON rows) (option_of (codes "gap") 0 0 HORIZON rows) (direction_of rows) (prepare_of rows) (flags_of rows)
+    (option_of (codes "heaps") DEFAULT_HEAPS LEAST_HEAPS MOST_HEAPS rows) (option_of (codes "turns") DEFAULT_TURNS 0 MOST_TURNS rows) (option_of (codes "seed") DEFAULT_SEED 0 18446744073709551615 rows)
+    (option_of (codes "depart") DEFAULT_DEPARTURE 0 HORIZON rows) (chosen_of (codes "arrive") 0 HORIZON rows) (option_of (codes "gap") DEFAULT_GAP 0 HORIZON rows) (direction_of rows) (prepare_of rows) (flags_of rows)
 
 pub no_counts : (rows : List Row) → None ≡ counts_of rows → None ≡ options_of rows
 unfolding joined

@@ -1,6 +1,7 @@
 -- The options of a command in parts, each read alone.
 use Rattle.std.specs.Prelude.{◌≤◌, IfSome, List, Option, Some, codes, unwrap_or}
 use Rattle.ea_base.specs.declared.limits.TheConstants.{HORIZON, LEAST_HEAPS, MOST_AT_ONCE, MOST_BATCH, MOST_HEAPS, MOST_TURNS, MOST_WORKERS}
+use Rattle.ea_options.specs.declared.defaults.TheConstants.{DEFAULT_DEPARTURE, DEFAULT_GAP, DEFAULT_HEAPS, DEFAULT_SEED, DEFAULT_TURNS}
 use Rattle.clap.specs.Words.{Row}
 use Rattle.ea_options.specs.declared.chosen.Counts.{Counts}
 use Rattle.ea_options.specs.declared.chosen.Departures.{Departures}
@@ -20,16 +21,16 @@ counts_of rows = do
 
 unfoldable pub queue_of : List Row → Option Queue
 queue_of rows = do
-  heaps ← option_of (codes "heaps") 2 LEAST_HEAPS MOST_HEAPS rows
-  turns ← option_of (codes "turns") 1000000 0 MOST_TURNS rows
-  seed ← option_of (codes "seed") 1 0 18446744073709551615 rows
+  heaps ← option_of (codes "heaps") DEFAULT_HEAPS LEAST_HEAPS MOST_HEAPS rows
+  turns ← option_of (codes "turns") DEFAULT_TURNS 0 MOST_TURNS rows
+  seed ← option_of (codes "seed") DEFAULT_SEED 0 18446744073709551615 rows
   Some (record { heaps = heaps; turns = turns; seed = seed })
 
 unfoldable pub departures_of : List Row → Option Departures
 departures_of rows = do
-  depart ← option_of (codes "depart") 0 0 HORIZON rows
+  depart ← option_of (codes "depart") DEFAULT_DEPARTURE 0 HORIZON rows
   arrive ← chosen_of (codes "arrive") 0 HORIZON rows
-  gap ← option_of (codes "gap") 0 0 HORIZON rows
+  gap ← option_of (codes "gap") DEFAULT_GAP 0 HORIZON rows
   direction ← direction_of rows
   Some (record { depart = unwrap_or arrive depart; gap = gap; direction = direction })
 

@@ -1,6 +1,7 @@
 -- The limits of options, and their defaults.
 use Rattle.std.specs.Prelude.{ℕ, ◌≤◌, IfSome, if◌then◌else◌, nat_le, unwrap_or}
 use Rattle.ea_base.specs.declared.limits.TheConstants.{HORIZON, LEAST_HEAPS, MOST_AT_ONCE, MOST_BATCH, MOST_HEAPS, MOST_TURNS, MOST_WORKERS}
+use Rattle.ea_options.specs.declared.defaults.TheConstants.{DEFAULT_COUNTED_WORKERS}
 use Rattle.ea_options.specs.declared.options.RunOptions.{RunOptions}
 use Rattle.ea_options.specs.declared.options.Command.{Command}
 use Rattle.ea_options.specs.declared.options.Command.TheVariants.{Stored, Run, Pairs, Rank, Check, Explain, Formats}
@@ -32,4 +33,4 @@ HasLimits Formats = Unit {0}
 -- The workers that statistics and rank errors count: as asked for, else one if several problems are to be
 -- searched at once, else 4.
 abbrev pub counted_workers : RunOptions → ℕ
-counted_workers options = unwrap_or options.workers (if nat_le 2 (unwrap_or options.at_once 1) then 1 else 4)
+counted_workers options = unwrap_or options.workers (if nat_le 2 (unwrap_or options.at_once 1) then 1 else DEFAULT_COUNTED_WORKERS)

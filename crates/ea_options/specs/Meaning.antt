@@ -5,6 +5,7 @@ use Rattle.std.specs.Str.{bytes_eq}
 use Rattle.ea_base.specs.declared.direction.Direction.{Direction}
 use Rattle.ea_base.specs.declared.direction.Direction.TheVariants.{Forward, Turned}
 use Rattle.ea_base.specs.declared.limits.TheConstants.{HORIZON, LEAST_HEAPS, MOST_AT_ONCE, MOST_BATCH, MOST_HEAPS, MOST_TURNS, MOST_WORKERS}
+use Rattle.ea_options.specs.declared.defaults.TheConstants.{DEFAULT_DEPARTURE, DEFAULT_GAP, DEFAULT_HEAPS, DEFAULT_SEED, DEFAULT_TURNS}
 use Rattle.clap.specs.Words.{App, Row, Text, first_of, matches_of}
 use Rattle.ea_options.specs.declared.meaning.Names.{Names}
 use Rattle.ea_options.specs.declared.options.RunOptions.{RunOptions}
@@ -36,12 +37,12 @@ options_of rows = do
   workers ← chosen_of (codes "workers") 1 MOST_WORKERS rows
   at_once ← chosen_of (codes "at-once") 1 MOST_AT_ONCE rows
   batch ← chosen_of (codes "batch") 1 MOST_BATCH rows
-  heaps ← option_of (codes "heaps") 2 LEAST_HEAPS MOST_HEAPS rows
-  turns ← option_of (codes "turns") 1000000 0 MOST_TURNS rows
-  seed ← option_of (codes "seed") 1 0 18446744073709551615 rows
-  depart ← option_of (codes "depart") 0 0 HORIZON rows
+  heaps ← option_of (codes "heaps") DEFAULT_HEAPS LEAST_HEAPS MOST_HEAPS rows
+  turns ← option_of (codes "turns") DEFAULT_TURNS 0 MOST_TURNS rows
+  seed ← option_of (codes "seed") DEFAULT_SEED 0 18446744073709551615 rows
+  depart ← option_of (codes "depart") DEFAULT_DEPARTURE 0 HORIZON rows
   arrive ← chosen_of (codes "arrive") 0 HORIZON rows
-  gap ← option_of (codes "gap") 0 0 HORIZON rows
+  gap ← option_of (codes "gap") DEFAULT_GAP 0 HORIZON rows
   direction ← direction_of rows
   prepare ← chosen_yes_or_no_of (codes "prepare") rows
   Some (record {

@@ -6,6 +6,7 @@ ghost use Rattle.ea_options.specs.Limits.{AreOptions};
 ghost use Rattle.ea_options.specs.Meaning.{direction_of, options_of};
 ghost use Rattle.ea_options.specs.Values;
 
+use crate::defaults::{DEFAULT_DEPARTURE, DEFAULT_GAP, DEFAULT_HEAPS, DEFAULT_SEED, DEFAULT_TURNS};
 use crate::options::RunOptions;
 use crate::values::{chosen_number, chosen_yes_or_no, has_flag, option_number, text_of};
 use clap::ArgMatches;
@@ -51,9 +52,15 @@ fn queue_in(matches: &ArgMatches<'_>) -> Option<Queue>
     ensures limits { IfSome result IsQueue }
 {
     let most_heaps = u64::from(MOST_HEAPS);
-    let heaps = option_number(matches, "heaps", 2, u64::from(LEAST_HEAPS), most_heaps)?;
-    let turns = option_number(matches, "turns", 1_000_000, 0, MOST_TURNS)?;
-    let seed = option_number(matches, "seed", 1, 0, u64::MAX)?;
+    let heaps = option_number(
+        matches,
+        "heaps",
+        DEFAULT_HEAPS,
+        u64::from(LEAST_HEAPS),
+        most_heaps,
+    )?;
+    let turns = option_number(matches, "turns", DEFAULT_TURNS, 0, MOST_TURNS)?;
+    let seed = option_number(matches, "seed", DEFAULT_SEED, 0, u64::MAX)?;
     Some(Queue { heaps, turns, seed })
 }
 
@@ -100,9 +107,9 @@ fn departures_in(matches: &ArgMatches<'_>) -> Option<Departures>
     ensures departures { result ≡ departures_of (rows_of (found_of matches.now)) }
     ensures limits { IfSome result AreDepartures }
 {
-    let depart = option_number(matches, "depart", 0, 0, HORIZON)?;
+    let depart = option_number(matches, "depart", DEFAULT_DEPARTURE, 0, HORIZON)?;
     let arrive = chosen_number(matches, "arrive", 0, HORIZON)?;
-    let gap = option_number(matches, "gap", 0, 0, HORIZON)?;
+    let gap = option_number(matches, "gap", DEFAULT_GAP, 0, HORIZON)?;
     let direction = direction_in(matches)?;
     Some(Departures {
         depart: arrive.unwrap_or(depart),

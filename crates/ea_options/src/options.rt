@@ -2,6 +2,7 @@
 ghost use Rattle.std.specs.Prelude.{◌≡◌};
 ghost use Rattle.ea_options.specs.Limits.{counted_workers};
 
+use crate::defaults::DEFAULT_COUNTED_WORKERS;
 use ea_base::Direction;
 
 /// The options of a run and of its report. Each number is within its limits.
@@ -46,7 +47,8 @@ impl RunOptions {
         ensures { result ≡ counted_workers self.now }
     {
         let several = self.at_once.unwrap_or(1) >= 2;
-        self.workers.unwrap_or(if several { 1 } else { 4 })
+        self.workers
+            .unwrap_or(if several { 1 } else { DEFAULT_COUNTED_WORKERS })
     }
 }
 

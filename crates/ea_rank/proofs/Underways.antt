@@ -19,7 +19,7 @@ use Rattle.ea_machine.specs.Totals.{total}
 use Rattle.ea_pool.specs.Entries.{times, only}
 use Rattle.ea_machine.proofs.Totals.{total-append}
 use Rattle.ea_pool.proofs.Weights.{only-same, only-one}
-use Rattle.ea_rank.specs.Runs.{State, LowersNode, PopsFound, IsUnderway, weighs, entry_of}
+use Rattle.ea_rank.specs.Runs.{State, LowersNode, PopsFound, KeepsEntries, weighs, entry_of}
 use Rattle.ea_rank.specs.Tallies.{added}
 use Rattle.ea_rank.proofs.Books.{takes-weighs, none_weighs}
 
@@ -76,7 +76,7 @@ contains_more first rest number (suc k, near, is) = inr (k, omega arith, is)
 
 module _ (roads : Roads) (answers : ℕ → ℕ → ℕ → ℕ → Type 0) (sources : List Source) (network : IsNetwork roads) where
   pub underway-lowers : (begun : List Source) (left : List ℕ) (popped : List Entry) (node time : ℕ) (old new : State) → IsNode roads.nodes node → time ≤ HORIZON → time < label_of old.labels node → Reaches roads answers sources node time
-      → IsUnderway roads answers sources begun left popped old → LowersNode node time old new → IsUnderway roads answers sources begun left popped new
+      → KeepsEntries roads answers sources begun left popped old → LowersNode node time old new → KeepsEntries roads answers sources begun left popped new
   underway-lowers begun left popped node time old new is_node within low reaches u m = record {
     places = ap (λ (l : List ℕ). length l) m.labels ∙ length-set old.labels (node - 1) time ∙ u.places;
     at_sources = λ source among. (let was = u.at_sources source among in let down = fall source.node in omega arith);
@@ -138,7 +138,7 @@ module _ (roads : Roads) (answers : ℕ → ℕ → ℕ → ℕ → Type 0) (sou
   -- what was popped was stale, or the arcs from its node are left
   pub underway-pops : (left : List ℕ) (popped : List Entry) (first second : ℕ) (entry : Entry) (old new : State)
       → (label_of old.labels entry.node < entry.key) ⊎ ((number : ℕ) (arc : Arc) → IsArc roads number arc → arc.tail ≡ entry.node → Contains left number)
-      → IsUnderway roads answers sources sources [] popped old → PopsFound first second entry old new → IsUnderway roads answers sources sources left (popped ++ entry ∷ []) new
+      → KeepsEntries roads answers sources sources [] popped old → PopsFound first second entry old new → KeepsEntries roads answers sources sources left (popped ++ entry ∷ []) new
   underway-pops left popped first second entry old new why u m = record {
     places = ap (λ (l : List ℕ). length l) m.labels ∙ u.places;
     at_sources = λ source among. subst (λ (l : List ℕ). label_of l source.node ≤ source.departure) (sym m.labels) (u.at_sources source among);
@@ -184,7 +184,7 @@ module _ (roads : Roads) (answers : ℕ → ℕ → ℕ → ℕ → Type 0) (sou
   -- the next arc that was left is relaxed
   pub underway-passes : (number : ℕ) (rest : List ℕ) (popped : List Entry) (arc : Arc) (state : State) → IsArc roads number arc
       → ((arrival : ℕ) → answers arc.class arc.weight (label_of state.labels arc.tail) arrival → arrival ≤ HORIZON → label_of state.labels arc.head ≤ arrival)
-      → IsUnderway roads answers sources sources (number ∷ rest) popped state → IsUnderway roads answers sources sources rest popped state
+      → KeepsEntries roads answers sources sources (number ∷ rest) popped state → KeepsEntries roads answers sources sources rest popped state
   underway-passes number rest popped arc state is_arc done u = record {
     places = u.places;
     at_sources = u.at_sources;
@@ -206,7 +206,7 @@ module _ (roads : Roads) (answers : ℕ → ℕ → ℕ → ℕ → Type 0) (sou
   }
 
   -- if no entry is left, the labels are fixed
-  pub underway-fixed : (target : Option ℕ) (popped : List Entry) (state : State) → total (λ (es : List Entry). length es) state.heaps ≡ 0 → IsUnderway roads answers sources sources [] popped state → IsFixed roads answers (record { sources = sources; target = target }) (label_of state.labels)
+  pub underway-fixed : (target : Option ℕ) (popped : List Entry) (state : State) → total (λ (es : List Entry). length es) state.heaps ≡ 0 → KeepsEntries roads answers sources sources [] popped state → IsFixed roads answers (record { sources = sources; target = target }) (label_of state.labels)
   underway-fixed target popped state none u = record {
     at_sources = u.at_sources;
     reached = u.reached;
@@ -222,14 +222,14 @@ module _ (roads : Roads) (answers : ℕ → ℕ → ℕ → ℕ → Type 0) (sou
   }
 
   -- and the entry of each label was popped
-  pub underway-popped : (popped : List Entry) (state : State) → total (λ (es : List Entry). length es) state.heaps ≡ 0 → IsUnderway roads answers sources sources [] popped state → (node : ℕ) → IsNode roads.nodes node → label_of state.labels node ≢ NONE → 0 < times (entry_of node (label_of state.labels node)) popped
+  pub underway-popped : (popped : List Entry) (state : State) → total (λ (es : List Entry). length es) state.heaps ≡ 0 → KeepsEntries roads answers sources sources [] popped state → (node : ℕ) → IsNode roads.nodes node → label_of state.labels node ≢ NONE → 0 < times (entry_of node (label_of state.labels node)) popped
   underway-popped popped state none u node there labelled =
       let z = none_weighs (only (entry_of node (label_of state.labels node))) state.heaps none in
       let was = u.entered node there labelled in
       omega arith
 
   -- before the first source
-  pub underway-none : (begun : List Source) (state : State) → state.labels ≡ replicate roads.nodes NONE → weighs (λ e. 1) state.heaps ≡ 0 → total (λ (es : List Entry). length es) state.heaps ≡ 0 → IsUnderway roads answers sources [] [] [] state
+  pub underway-none : (begun : List Source) (state : State) → state.labels ≡ replicate roads.nodes NONE → weighs (λ e. 1) state.heaps ≡ 0 → total (λ (es : List Entry). length es) state.heaps ≡ 0 → KeepsEntries roads answers sources [] [] [] state
   underway-none begun state labels none empty = record {
     places = ap (λ (l : List ℕ). length l) labels ∙ long roads.nodes;
     at_sources = λ source among. absurd (omega (arith, among.1.0));
@@ -259,7 +259,7 @@ module _ (roads : Roads) (answers : ℕ → ℕ → ℕ → ℕ → Type 0) (sou
     -- an arc that lowers the label of its head is relaxed
     pub pass-lowers : (rest : List ℕ) (popped : List Entry) (number node departure arrival : ℕ) (arc : Arc) (old new : State) → IsNode roads.nodes node → departure ≤ HORIZON → label_of old.labels node ≡ departure → IsArc roads number arc → arc.tail ≡ node
         → answers arc.class arc.weight departure arrival → departure ≤ arrival → arrival ≤ HORIZON → arrival < label_of old.labels arc.head
-        → IsUnderway roads answers sources sources (number ∷ rest) popped old → LowersNode arc.head arrival old new → IsUnderway roads answers sources sources rest popped new × (label_of new.labels node ≡ departure)
+        → KeepsEntries roads answers sources sources (number ∷ rest) popped old → LowersNode arc.head arrival old new → KeepsEntries roads answers sources sources rest popped new × (label_of new.labels node ≡ departure)
     pass-lowers rest popped number node departure arrival arc old new is_node within label is_arc tail answer later early low u m = (
       underway-passes number rest popped arc new is_arc
           (λ other that soon. (
@@ -285,7 +285,7 @@ module _ (roads : Roads) (answers : ℕ → ℕ → ℕ → ℕ → Type 0) (sou
     -- and so is one that arrives no earlier than the label, or too late
     pub pass-keeps : (rest : List ℕ) (popped : List Entry) (number node departure arrival : ℕ) (arc : Arc) (state : State) → departure ≤ HORIZON → label_of state.labels node ≡ departure → IsArc roads number arc → arc.tail ≡ node
         → answers arc.class arc.weight departure arrival → (HORIZON < arrival) ⊎ (label_of state.labels arc.head ≤ arrival)
-        → IsUnderway roads answers sources sources (number ∷ rest) popped state → IsUnderway roads answers sources sources rest popped state
+        → KeepsEntries roads answers sources sources (number ∷ rest) popped state → KeepsEntries roads answers sources sources rest popped state
     pass-keeps rest popped number node departure arrival arc state within label is_arc tail answer why u =
         underway-passes number rest popped arc state is_arc
         (λ other that soon. (
@@ -295,7 +295,7 @@ module _ (roads : Roads) (answers : ℕ → ℕ → ℕ → ℕ → Type 0) (sou
         u
 
   -- one more source has been offered
-  pub underway-begins : (begun : List Source) (source : Source) (popped : List Entry) (state : State) → label_of state.labels source.node ≤ source.departure → IsUnderway roads answers sources begun [] popped state → IsUnderway roads answers sources (begun ++ source ∷ []) [] popped state
+  pub underway-begins : (begun : List Source) (source : Source) (popped : List Entry) (state : State) → label_of state.labels source.node ≤ source.departure → KeepsEntries roads answers sources begun [] popped state → KeepsEntries roads answers sources (begun ++ source ∷ []) [] popped state
   underway-begins begun source popped state low u = record {
     places = u.places;
     at_sources = λ other among. elim (among_more begun source other among) [
@@ -309,7 +309,7 @@ module _ (roads : Roads) (answers : ℕ → ℕ → ℕ → ℕ → Type 0) (sou
   }
 
   -- what is known of an entry that was popped
-  pub popped_known : (popped : List Entry) (first second : ℕ) (entry : Entry) (old new : State) → IsUnderway roads answers sources sources [] popped old → PopsFound first second entry old new → IsNode roads.nodes entry.node × (entry.key ≤ HORIZON) × (label_of new.labels entry.node ≤ entry.key)
+  pub popped_known : (popped : List Entry) (first second : ℕ) (entry : Entry) (old new : State) → KeepsEntries roads answers sources sources [] popped old → PopsFound first second entry old new → IsNode roads.nodes entry.node × (entry.key ≤ HORIZON) × (label_of new.labels entry.node ≤ entry.key)
   popped_known popped first second entry old new u m =
       subst (λ (l : List ℕ). IsNode roads.nodes entry.node × (entry.key ≤ HORIZON) × (label_of l entry.node ≤ entry.key)) (sym m.labels)
       (u.entries entry (let sum = takes-weighs _ entry old.heaps new.heaps m.heaps.taken (only entry) in let one = only-same entry in omega arith))

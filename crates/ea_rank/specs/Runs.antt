@@ -73,7 +73,7 @@ pub record IsRecorded (popped : List Entry) (state : State) : Type 0 where
 
 -- Each node with a label has its entry in the heaps, or the entry was popped and the arcs from the node were
 -- relaxed, except those that are left.
-pub record IsUnderway
+pub record KeepsEntries
     (roads : Roads)
     (answers : ℕ → ℕ → ℕ → ℕ → Type 0)
     (sources begun : List Source)
@@ -91,4 +91,4 @@ pub record IsUnderway
 -- A run that is under way, whatever it has popped so far.
 abbrev pub IsOnCourse : Roads → (ℕ → ℕ → ℕ → ℕ → Type 0) → List Source → List Source → List ℕ → State → Type 0
 IsOnCourse roads answers sources begun left state =
-    (popped : List Entry) × IsUnderway roads answers sources begun left popped state × IsRecorded popped state
+    (popped : List Entry) × KeepsEntries roads answers sources begun left popped state × IsRecorded popped state

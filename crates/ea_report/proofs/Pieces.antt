@@ -9,7 +9,7 @@ use Rattle.std.specs.Io.KnownBytes.{Appends}
 use Rattle.std.proofs.KnownBytes.{Appends-trans, Appends-nil}
 use Rattle.ea_bytes.specs.Device.{Seen, one_more, BearsOn, GivesUp, HasGivenUp}
 use Rattle.ea_report.specs.Delivery.{Delivery, all_sent, with_more}
-use Rattle.ea_report.specs.Sent.{AreCounted, HasBorne, IsExact, IsNotLess, IsCutAt, IsCutBy, IsReason, Delivers, IsWhole, Adds, Cuts, GoesOn, SendsWhole, SendsFront, Stops}
+use Rattle.ea_report.specs.Sent.{AreCounted, HasBorne, IsExact, IsNotLess, IsCutAt, IsCutBy, IsReason, Delivers, IsWhole, Adds, Cuts, DeliversMore, SendsWhole, SendsFront, Stops}
 use Rattle.ea_report.specs.Writers.{AddsOrGivesUp, AddsOrStops, GoesOnOrCuts}
 use Rattle.ea_report.specs.declared.report.TheConstants.{PIECE}
 use Rattle.ea_report.specs.declared.report.WriteFault.{WriteFault}
@@ -187,7 +187,7 @@ given_up (Err fault) first now text h = λ e. shown first now (subst (λ k. IsRe
 -- ---- what writers did
 
 adds_after : {T : Type 0} (r : Result T WriteFault) (old new : Seen) (d after : Delivery) (pending more : List ℕ) → pending ≡ d.pending ++ more
-    → OnOk r (GoesOn old (record d { pending = pending }) new after) → OnOk r (Adds old d new after more)
+    → OnOk r (DeliversMore old (record d { pending = pending }) new after) → OnOk r (Adds old d new after more)
 adds_after (Ok x) old new d after pending more e h = λ first text way. h first (text ++ more) (rw e (delivery_more first old d text more way))
 adds_after (Err fault) old new d after pending more e h = tt
 

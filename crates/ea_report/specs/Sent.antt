@@ -64,8 +64,8 @@ IsWhole first now text written =
     (written ≡ length text) × Appends first.bytes now.bytes text × BearsOn first now × IsNotLess first.interrupted now.interrupted
 
 -- What was delivered stays so, with more.
-abbrev pub GoesOn : Seen → Delivery → Seen → Delivery → Type 0
-GoesOn old delivery now delivery_now =
+abbrev pub DeliversMore : Seen → Delivery → Seen → Delivery → Type 0
+DeliversMore old delivery now delivery_now =
     (first : Seen) (text : List ℕ) → Delivers first old delivery text → Delivers first now delivery_now text
 
 -- What was delivered is cut.

@@ -2,7 +2,7 @@
 use Rattle.std.specs.Prelude.{◌≡◌, ℕ, ◌+◌, ◌*◌, ◌^◌, ◌<◌, ◌≤◌, List, IfErr, IfOk, OnOk, Result, length}
 use Rattle.ea_bytes.specs.Device.{Seen}
 use Rattle.ea_report.specs.Delivery.{Delivery}
-use Rattle.ea_report.specs.Sent.{Adds, Cuts, GoesOn, IsCutBy, IsExact, IsWhole, Stops}
+use Rattle.ea_report.specs.Sent.{Adds, Cuts, DeliversMore, IsCutBy, IsExact, IsWhole, Stops}
 use Rattle.ea_report.specs.declared.report.WriteFault.{WriteFault}
 use Rattle.ea_report.specs.declared.report.WriteFaultKind.TheVariants.{WriteFailed}
 use Rattle.ea_report.specs.declared.report.TheConstants.{PIECE}
@@ -10,7 +10,7 @@ use Rattle.ea_report.specs.declared.report.TheConstants.{PIECE}
 module _ {T : Type 0} (old : Seen) (before : Delivery) (now : Seen) (after : Delivery) where
   -- What was delivered stays so, and less than a piece is pending; or it is cut while the pending text is sent.
   pub record GoesOnOrCuts (result : Result T WriteFault) : Type 0 where
-    pub ok : OnOk result (GoesOn old before now after)
+    pub ok : OnOk result (DeliversMore old before now after)
     pub err : IfErr result (λ fault. IsExact fault.written → Cuts old before now fault)
     pub bound : after.written ≤ before.written + 2 ^ 63
     pub small : IfErr result (λ fault. fault.written ≤ before.written + 2 ^ 63)

@@ -9,12 +9,12 @@ use std::marker::Model;
 /// contracts it is its sources and its target.
 #[derive(Drop)]
 pub struct Query {
-    asked: Asked,
+    asked: QueryForm,
 }
 
 /// The forms of a query.
 #[derive(Drop)]
-enum Asked {
+enum QueryForm {
     All(Vec<Source>),
     One([Source; 1]),
     Pair([Source; 1], u32),
@@ -39,7 +39,7 @@ impl Query {
         ensures { result ≡ record { sources = sources.items; target = None } }
     {
         Query {
-            asked: Asked::All(sources),
+            asked: QueryForm::All(sources),
         }
     }
 
@@ -49,7 +49,7 @@ impl Query {
         ensures { result ≡ record { sources = source ∷ []; target = None } }
     {
         Query {
-            asked: Asked::One([source]),
+            asked: QueryForm::One([source]),
         }
     }
 
@@ -72,7 +72,7 @@ impl Query {
         ensures { result ≡ record { sources = source ∷ []; target = Some target } }
     {
         Query {
-            asked: Asked::Pair([source], target),
+            asked: QueryForm::Pair([source], target),
         }
     }
 
@@ -82,9 +82,9 @@ impl Query {
         ensures query { IsQuery self.now }
     {
         match &self.asked {
-            Asked::All(sources) => sources,
-            Asked::One(source) => source,
-            Asked::Pair(source, _) => source,
+            QueryForm::All(sources) => sources,
+            QueryForm::One(source) => source,
+            QueryForm::Pair(source, _) => source,
         }
     }
 
@@ -94,9 +94,9 @@ impl Query {
         ensures query { IsQuery self.now }
     {
         match &self.asked {
-            Asked::All(_) => None,
-            Asked::One(_) => None,
-            Asked::Pair(_, target) => Some(*target),
+            QueryForm::All(_) => None,
+            QueryForm::One(_) => None,
+            QueryForm::Pair(_, target) => Some(*target),
         }
     }
 

@@ -7,10 +7,11 @@ use Rattle.ea_engine.specs.declared.settings.Settings.{Settings}
 use Rattle.ea_load.specs.Posed.{AreProblems}
 use Rattle.ea_load.specs.declared.road.Road.{Road}
 use Rattle.ea_road.specs.Queries.{Asking}
+use Rattle.ea_options.specs.declared.defaults.TheConstants.{DEFAULT_TURNS}
 use Rattle.ea_options.specs.Limits.{AreOptions, counted_workers}
 use Rattle.ea_options.specs.declared.options.RunOptions.{RunOptions}
 use Rattle.earliest.specs.Workers.{settings_with}
-use Rattle.earliest.specs.declared.solver_choice.TheConstants.{FEW_FOR_TWO, FEW_NODES, MANY_FOR_TWO, MANY_NODES, TURNS}
+use Rattle.earliest.specs.declared.solver_choice.TheConstants.{FEW_FOR_TWO, FEW_NODES, MANY_FOR_TWO, MANY_NODES}
 use Rattle.earliest.specs.declared.preparing.TheConstants.{FEW_PROBLEMS, OFFERS_BY_NODE}
 
 -- A number from 1 to a most is this choice.
@@ -86,7 +87,7 @@ workers_for processors nodes is_few options =
 -- The settings of this number of workers. Turns are limited if statistics are asked for, or if the option isn't the default.
 abbrev pub settings_for : RunOptions → ℕ → Settings
 settings_for options workers =
-    if options.stats || not (options.turns == TURNS) then settings_with options workers
+    if options.stats || not (options.turns == DEFAULT_TURNS) then settings_with options workers
     else record (settings_with options workers) { turns = MOST_TURNS }
 
 -- Allowed settings of this number of workers are those; with statistics, as options ask for.

@@ -30,14 +30,7 @@ StaysAmong workers turns = StaysOn 0 turns × (workers ≡ 1 → All (λ t. t.1 
 abbrev pub KeepsOn : {T : Type 0} → (T → Turn → Flow → T → Type 0) → ℕ → T → Type 0
 KeepsOn {T} shows workers tracer = (turns : List Told) (last : T) → FoldsTo (λ p t q. shows p t.0 t.1 q) tracer turns last → StaysAmong workers turns
 
--- Workers with these settings can run: each has a generator, and a tracer that may be called and by which it stays.
-pub record CanRun {T : Type 0} (IsCallable : T → Type 0) (shows : T → Turn → Flow → T → Type 0) (settings : Settings) (rngs tracers_len : ℕ) (tracers : List T) : Type 0 where
-  pub settings_are : AreSettings settings
-  pub workers : (rngs ≡ settings.workers) × (tracers_len ≡ settings.workers)
-  pub callable : All IsCallable tracers
-  pub stays : All (KeepsOn shows settings.workers) tracers
-
--- The same with a copy of one tracer for each.
+-- Workers with these settings can run: each has a generator, and a copy of a tracer by which it stays.
 pub record CanRunCopies {T : Type 0} (shows : T → Turn → Flow → T → Type 0) (settings : Settings) (rngs : ℕ) (tracer : T) : Type 0 where
   pub settings_are : AreSettings settings
   pub workers : rngs ≡ settings.workers

@@ -15,8 +15,8 @@ work_with work counted = record {
 }
 
 -- One more worker's counts fit.
-abbrev pub HasRoom : Work → Type 0
-HasRoom work =
+abbrev pub FitsOneMore : Work → Type 0
+FitsOneMore work =
     (work.pushed < 2 ^ 100) × (work.popped < 2 ^ 100) × (work.stale < 2 ^ 100) × (work.scanned < 2 ^ 100)
     × (work.returned < 2 ^ 100)
 

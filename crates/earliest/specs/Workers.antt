@@ -4,12 +4,13 @@ use Rattle.ea_engine.specs.declared.worker.home_heaps.Homing.{Homing}
 use Rattle.ea_engine.specs.declared.settings.Settings.{Settings}
 use Rattle.ea_engine.specs.Homes.{IsAtHome}
 use Rattle.ea_rank_command.specs.Generators.{generator_from, seed_of_worker}
+use Rattle.ea_options.specs.declared.defaults.TheConstants.{DEFAULT_BATCH}
 use Rattle.ea_options.specs.Limits.{counted_workers}
 use Rattle.ea_options.specs.declared.options.RunOptions.{RunOptions}
 
 -- The size of batches for this many workers, if none is asked for.
 abbrev pub batch_of : ℕ → ℕ
-batch_of workers = if workers == 1 then 1 else 32
+batch_of workers = if workers == 1 then 1 else DEFAULT_BATCH
 
 -- The consecutive idle turns after which a worker ends.
 abbrev pub patience_of : ℕ → ℕ

@@ -1,12 +1,14 @@
 //! Choosing how a problem is searched: by workers or by the search of one thread.
-ghost use Rattle.std.specs.Prelude.{◌≡◌, ◌≤◌, ◌||◌, ℕ, IfOk, IfSome, Option, Some, false, is_some, length, replicate, true, vec_len};
+ghost use Rattle.std.specs.Prelude.{◌≡◌, ◌≤◌, ◌||◌, ℕ, All, IfOk, IfSome, Option, Some, false, is_some, length, replicate, true, vec_len};
 ghost use Rattle.ea_base.specs.declared.limits.TheConstants.{MOST_AT_ONCE, MOST_STARTS, MOST_WORKERS};
-ghost use Rattle.ea_load.specs.Posed.{IsPosed};
+ghost use Rattle.ea_batch.specs.Solved.{AnswersOn, ArrivesOn};
+ghost use Rattle.ea_load.specs.Posed.{IsPosed, times_on};
 ghost use Rattle.ea_engine.specs.Companies.{idle_with, IsIdleFor, LeavesAs};
 ghost use Rattle.ea_engine.specs.Limits.{AreSettings};
+ghost use Rattle.ea_engine.specs.Runs.{IsRunOf, ran_of};
 ghost use Rattle.ea_engine.specs.Tallies.{IsTally};
 ghost use Rattle.ea_options.specs.Limits.{AreOptions, counted_workers};
-ghost use Rattle.earliest.specs.Counted.{AreOfOne, CanRun, CanRunCopies, IsTotal, totals_by};
+ghost use Rattle.earliest.specs.Counted.{AreOfOne, CanRunCopies, IsTotal, totals_by};
 ghost use Rattle.ea_rank_command.specs.Generators.{generators_from};
 ghost use Rattle.earliest.specs.Running.{IsFoundAndCounted, IsFoundByWorkers};
 ghost use Rattle.earliest.specs.Choices.{AreSettingsFor, CanChoose, CanLimit, CanSetUp, IsChosen, asks_for_workers, at_once_on, counted_at_once, goes_ahead, is_alone, settings_for, workers_asked, workers_by, workers_for, workers_on};
@@ -15,10 +17,10 @@ ghost use Rattle.earliest.specs.Workers.{AreAtHome, settings_with};
 use crate::totals::work_of;
 use ea_base::{MOST_AT_ONCE, MOST_TURNS, MOST_WORKERS};
 use ea_engine::{
-    Answer, Company, Counters, Crew, Flow, Homing, NoGate, Settings, Turn, solve, solve_arrivals,
+    Answer, Company, Crew, Flow, Homing, NoGate, Settings, Solved, Turn, solve, solve_arrivals,
 };
 use ea_load::Road;
-use ea_options::RunOptions;
+use ea_options::{DEFAULT_BATCH, DEFAULT_TURNS, RunOptions};
 use ea_report::Totals;
 use ea_road::Query;
 use rand_core::{Rng, SeedableRng};
@@ -212,14 +214,8 @@ pub(crate) fn workers_of<H: Threads>(
     workers_for(processors_if(rt, decides), nodes, is_few, options)
 }
 
-/// The budget of turns if none is asked for.
-const TURNS: u64 = 1_000_000;
-
 /// The most consecutive idle turns of one of several workers. If nothing is left, they notice it long before.
 const PATIENCE: u32 = 65_536;
-
-/// The batch size of one of several workers.
-const BATCH: u64 = 32;
 
 /// The settings of this number of workers. Turns are limited if statistics are asked for, or if the option
 /// isn't the default.
@@ -228,7 +224,7 @@ fn settings_of(options: &RunOptions, workers: u32) -> Settings
     ensures { AreSettingsFor options.now workers result }
 {
     let is_alone = workers == 1;
-    let is_counted = options.stats || options.turns != TURNS;
+    let is_counted = options.stats || options.turns != DEFAULT_TURNS;
     Settings {
         workers,
         heaps: options.heaps as u32,
@@ -237,7 +233,9 @@ fn settings_of(options: &RunOptions, workers: u32) -> Settings
         } else {
             MOST_TURNS
         },
-        batch: options.batch.unwrap_or(if is_alone { 1 } else { BATCH }) as u32,
+        batch: options
+            .batch
+            .unwrap_or(if is_alone { 1 } else { DEFAULT_BATCH }) as u32,
         patience: if is_alone { 32 } else { PATIENCE },
     }
 }
@@ -284,28 +282,32 @@ fn copies<T: Copy + Drop>(alloc: Global, value: T, count: u32) -> Result<Vec<T>,
     Ok(made)
 }
 
-/// The totals of a problem.
-fn totals_of(
-    seeded: u128,
-    returned: u128,
-    drained: u128,
-    finish: u128,
-    counters: &[Counters],
-) -> Totals
-    requires tally { (sources : ℕ) × (sources ≤ MOST_STARTS)
-        × IsTally sources seeded returned drained finish counters.now }
-    requires few { length counters.now ≤ 16 }
-    ensures sums { result ≡ totals_by (record {
-      seeded = seeded;
-      returned = returned;
-      drained = drained;
-      finish = finish;
-      workers = counters.now;
+/// The answer of a run, and its totals.
+fn found_of<R: Drop, T: Drop>(solved: Solved<R, T>) -> Found
+    requires tally { (sources : ℕ) × (sources ≤ MOST_STARTS) × IsTally sources solved.seeded
+        solved.returned solved.drained solved.finish solved.counters.items }
+    requires few { vec_len solved.counters ≤ 16 }
+    ensures answer { result.answer ≡ solved.answer }
+    ensures sums { result.totals ≡ totals_by (record {
+      seeded = solved.seeded;
+      returned = solved.returned;
+      drained = solved.drained;
+      finish = solved.finish;
+      workers = solved.counters.items;
     }) }
-    ensures of_one { AreOfOne result }
+    ensures of_one { AreOfOne result.totals }
 {
-    let work = work_of(counters);
-    Totals {
+    let Solved {
+        answer,
+        seeded,
+        returned,
+        drained,
+        finish,
+        counters,
+        ..
+    } = solved;
+    let work = work_of(&counters);
+    let totals = Totals {
         seeded,
         pushed: work.pushed,
         popped: work.popped,
@@ -314,87 +316,35 @@ fn totals_of(
         returned,
         drained,
         finish,
+    };
+    Found { answer, totals }
+}
+
+/// Solves a problem, with its walks if they are asked for.
+fn solve_asked<H: Threads + Sync, R: Rng + Send + Drop, T: FnMut(Turn) -> Flow + Send + Drop>(
+    alloc: Global,
+    rt: &H,
+    asked: Asked<'_>,
+    crew: Crew<'_, R, NoGate, T>,
+) -> Result<Solved<R, T>, AllocError>
+    requires posed { IsPosed asked.road.now asked.query.now }
+    requires settings { AreSettings crew.settings }
+    requires workers { (vec_len crew.rngs ≡ crew.settings.workers)
+        × (vec_len crew.tracers ≡ crew.settings.workers) }
+    requires tracers { All T.IsAlwaysCallable crew.tracers.items }
+    ensures arrivals { IfOk result (λ solved.
+        ArrivesOn asked.entry.road.now asked.entry.query.now solved.answer) }
+    ensures canonical { IfOk result (λ solved. asked.entry.walks ≡ true
+        → AnswersOn asked.entry.road.now asked.entry.query.now solved.answer) }
+    ensures run { IfOk result (λ solved. IsRunOf R.stream T.step asked.entry.road.now.network
+        (times_on asked.entry.road.now) asked.entry.query.now crew.entry (ran_of solved)) }
+{
+    let Asked { road, query, walks } = asked;
+    if walks {
+        solve(alloc, rt, &road.network, &road.times, query, crew)
+    } else {
+        solve_arrivals(alloc, rt, &road.network, &road.times, query, crew)
     }
-}
-
-/// The answer of a problem with walks.
-fn find_walks<H: Threads + Sync, R: Rng + Send + Drop, T: FnMut(Turn) -> Flow + Send + Drop>(
-    alloc: Global,
-    rt: &H,
-    road: &Road,
-    query: &Query,
-    settings: Settings,
-    rngs: Vec<R>,
-    tracers: Vec<T>,
-) -> Result<Found, AllocError>
-    requires posed { IsPosed road.now query.now }
-    requires crew { CanRun T.IsAlwaysCallable T.step settings
-        (vec_len rngs) (vec_len tracers) tracers.items }
-    ensures { IfOk result (IsFoundAndCounted true settings road.now query.now) }
-{
-    let solved = solve(
-        alloc,
-        rt,
-        &road.network,
-        &road.times,
-        query,
-        Crew {
-            settings,
-            rngs,
-            gate: &NoGate,
-            tracers,
-        },
-    )?;
-    Ok(Found {
-        totals: totals_of(
-            solved.seeded,
-            solved.returned,
-            solved.drained,
-            solved.finish,
-            &solved.counters,
-        ),
-        answer: solved.answer,
-    })
-}
-
-/// The answer of a problem without walks.
-fn find_arrivals<H: Threads + Sync, R: Rng + Send + Drop, T: FnMut(Turn) -> Flow + Send + Drop>(
-    alloc: Global,
-    rt: &H,
-    road: &Road,
-    query: &Query,
-    settings: Settings,
-    rngs: Vec<R>,
-    tracers: Vec<T>,
-) -> Result<Found, AllocError>
-    requires posed { IsPosed road.now query.now }
-    requires crew { CanRun T.IsAlwaysCallable T.step settings
-        (vec_len rngs) (vec_len tracers) tracers.items }
-    ensures { IfOk result (IsFoundAndCounted false settings road.now query.now) }
-{
-    let solved = solve_arrivals(
-        alloc,
-        rt,
-        &road.network,
-        &road.times,
-        query,
-        Crew {
-            settings,
-            rngs,
-            gate: &NoGate,
-            tracers,
-        },
-    )?;
-    Ok(Found {
-        totals: totals_of(
-            solved.seeded,
-            solved.returned,
-            solved.drained,
-            solved.finish,
-            &solved.counters,
-        ),
-        answer: solved.answer,
-    })
 }
 
 /// The answer of a problem by workers with these settings and generators; each one's tracer is a copy of
@@ -413,13 +363,15 @@ fn find_by<H: Threads + Sync, R: Rng + Send + Drop, T: FnMut(Turn) -> Flow + Sen
     ensures { IfOk result (IsFoundAndCounted asked.entry.walks settings
         asked.entry.road.now asked.entry.query.now) }
 {
-    let Asked { road, query, walks } = asked;
     let tracers = copies(alloc, tracer, settings.workers)?;
-    if walks {
-        find_walks(alloc, rt, road, query, settings, rngs, tracers)
-    } else {
-        find_arrivals(alloc, rt, road, query, settings, rngs, tracers)
-    }
+    let crew = Crew {
+        settings,
+        rngs,
+        gate: &NoGate,
+        tracers,
+    };
+    let solved = solve_asked(alloc, rt, asked, crew)?;
+    Ok(found_of(solved))
 }
 
 /// The answer of a problem by this number of workers, with walks if the options ask for them.

@@ -2,7 +2,7 @@
 ghost use Rattle.std.specs.Prelude.{◌≡◌, ◌+◌, ◌*◌, ◌≤◌, length};
 ghost use Rattle.earliest.specs.Counted.{AreNoTotals, AreOfOne};
 ghost use Rattle.earliest.specs.Running.{AddsTotals, AreSoFar};
-ghost use Rattle.earliest.specs.Worked.{AreNarrow, HasRoom, IsWorkOf, work_with};
+ghost use Rattle.earliest.specs.Worked.{AreNarrow, FitsOneMore, IsWorkOf, work_with};
 
 use ea_engine::Counters;
 use ea_report::Totals;
@@ -35,7 +35,7 @@ pub(crate) struct Work {
 
 /// Adds a worker's counters.
 fn add_work(work: &mut Work, counted: &Counters)
-    requires room { HasRoom work.old }
+    requires room { FitsOneMore work.old }
     ensures added { work.new ≡ work_with work.old counted.now }
     ensures few { AreNarrow counted.now }
 {

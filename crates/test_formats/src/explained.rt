@@ -68,14 +68,14 @@ fn faults_by_number_and_name(rt: HostRuntime) {
 }
 
 /// The first bytes of files, and the guess for them.
-const LOOKS: [(&[u8], Option<Look>); 11] = [
-    (b"\x1f\x8b\x08\x00", Some(Look::Gzip)),
-    (b"\x28\xb5\x2f\xfd\x04", Some(Look::Zstd)),
-    (b"\xef\xbb\xbfp sp 1 0\n", Some(Look::Marked)),
-    (b"\xff\xfep\x00 \x00", Some(Look::Wide)),
-    (b"\xfe\xff\x00p", Some(Look::Wide)),
-    (b"p\x00 \x00s\x00", Some(Look::Wide)),
-    (b"p sp 1 0\rc\r", Some(Look::OldMac)),
+const ENCODINGS: [(&[u8], Option<Encoding>); 11] = [
+    (b"\x1f\x8b\x08\x00", Some(Encoding::Gzip)),
+    (b"\x28\xb5\x2f\xfd\x04", Some(Encoding::Zstd)),
+    (b"\xef\xbb\xbfp sp 1 0\n", Some(Encoding::Marked)),
+    (b"\xff\xfep\x00 \x00", Some(Encoding::Wide)),
+    (b"\xfe\xff\x00p", Some(Encoding::Wide)),
+    (b"p\x00 \x00s\x00", Some(Encoding::Wide)),
+    (b"p sp 1 0\rc\r", Some(Encoding::OldMac)),
     (b"p sp 1 0\r\nc\r\n", None),
     (b"p sp 1 0\n", None),
     (b"\x1f", None),
@@ -83,9 +83,9 @@ const LOOKS: [(&[u8], Option<Look>); 11] = [
 ];
 
 /// The index of the first with another guess.
-fn wrong_look() -> Option<usize> {
-    for (place, (front, look)) in LOOKS.iter().enumerate() {
-        if look_of(front) != *look {
+fn wrong_encoding() -> Option<usize> {
+    for (place, (front, encoding)) in ENCODINGS.iter().enumerate() {
+        if encoding_of(front) != *encoding {
             return Some(place);
         }
     }
@@ -93,8 +93,8 @@ fn wrong_look() -> Option<usize> {
 }
 
 #[test]
-fn looks_of_files(rt: HostRuntime) {
-    assert_none_wrong(&rt, wrong_look());
+fn encodings_of_files(rt: HostRuntime) {
+    assert_none_wrong(&rt, wrong_encoding());
 }
 
 /// A line that is at fault: the file, the fault, the line and the whole text for it.
@@ -311,33 +311,33 @@ fn wanted_lines(rt: HostRuntime) {
 }
 
 /// The advice for each guess.
-const ADVICE: [(Look, &str); 5] = [
+const ADVICE: [(Encoding, &str); 5] = [
     (
-        Look::Gzip,
+        Encoding::Gzip,
         "this looks like a gzip file: zcat it into -, as in `zcat FILE | earliest run - starts.ss`",
     ),
     (
-        Look::Zstd,
+        Encoding::Zstd,
         "this looks like a zstd file: zstdcat it into -, as in `zstdcat FILE | earliest run - starts.ss`",
     ),
     (
-        Look::Marked,
+        Encoding::Marked,
         "the file begins with a byte-order mark: save it as UTF-8 without one, or as ASCII",
     ),
     (
-        Look::Wide,
+        Encoding::Wide,
         "this looks like UTF-16: save it as UTF-8 without a byte-order mark, or as ASCII",
     ),
     (
-        Look::OldMac,
+        Encoding::OldMac,
         "its lines end in carriage returns alone, as on old Macs: save it with line feeds",
     ),
 ];
 
 /// The index of the first guess with another advice.
 fn wrong_advice() -> Option<usize> {
-    for (place, (look, text)) in ADVICE.iter().enumerate() {
-        if look.advice() != *text {
+    for (place, (encoding, text)) in ADVICE.iter().enumerate() {
+        if encoding.advice() != *text {
             return Some(place);
         }
     }
@@ -345,7 +345,7 @@ fn wrong_advice() -> Option<usize> {
 }
 
 #[test]
-fn advice_on_looks(rt: HostRuntime) {
+fn advice_on_encodings(rt: HostRuntime) {
     assert_none_wrong(&rt, wrong_advice());
 }
 

@@ -24,7 +24,7 @@ use std::alloc::{AllocError, Global};
 
 /// The lists of a network's arcs: tails, heads, weights, and classes, which are all 0 if their list is empty.
 #[derive(Clone, Copy)]
-pub struct Lists<'a> {
+pub struct ArcColumns<'a> {
     pub tails: &'a [u32],
     pub heads: &'a [u32],
     pub weights: &'a [u32],
@@ -32,7 +32,7 @@ pub struct Lists<'a> {
 }
 
 /// Whether the lists have one length; that of classes may be empty.
-fn are_even(lists: Lists<'_>) -> bool
+fn are_even(lists: ArcColumns<'_>) -> bool
     ensures { IsTrue result ↔ AreEven (arc_lists lists.entry) }
 {
     let count = lists.tails.len();
@@ -43,7 +43,7 @@ fn are_even(lists: Lists<'_>) -> bool
 }
 
 /// The arcs of lists.
-fn arcs_in(alloc: Global, lists: Lists<'_>) -> Result<Vec<Arc>, AllocError>
+fn arcs_in(alloc: Global, lists: ArcColumns<'_>) -> Result<Vec<Arc>, AllocError>
     requires { AreEven (arc_lists lists) }
     ensures { IfOk result (λ arcs.
         arcs.items ≡ arcs_to (length lists.entry.tails.now) (arc_lists lists.entry)) }
@@ -167,7 +167,7 @@ fn road_with(alloc: Global, nodes: u32, arcs: Vec<Arc>, tp: &[u8]) -> Result<Roa
 }
 
 /// The road of lists and a text of timetables.
-fn road_of(alloc: Global, nodes: u32, lists: Lists<'_>, tp: &[u8]) -> Result<Road, Fault>
+fn road_of(alloc: Global, nodes: u32, lists: ArcColumns<'_>, tp: &[u8]) -> Result<Road, Fault>
     ensures road { IfOk result (IsRoadOfLists nodes (arc_lists lists.entry) tp.now) }
     ensures classed { IfOk result (λ it. top_class it.network.arcs ≤ length it.times.tables.list.items) }
     ensures refused { IfErr result (IsNoRoad nodes (arc_lists lists.entry) tp.now) }
@@ -216,7 +216,7 @@ pub extern "C" fn earliest_road_of_lists(
     })
         tp.now road.old.value road.new.value fault.new }
 {
-    let lists = Lists {
+    let lists = ArcColumns {
         tails,
         heads,
         weights,

@@ -6,7 +6,7 @@ ghost use Rattle.ea_check.specs.declared.fault.CheckFault.TheVariants.{OutOfMemo
 
 use crate::fault::CheckFault;
 use crate::form::plain_lines::take_times;
-use crate::form::run::{Found, Run, join_runs};
+use crate::form::run::{LinesFound, Run, join_runs};
 use crate::team::Team;
 use ea_base::Direction;
 use ea_fork_join::MOST_THREADS;
@@ -158,7 +158,7 @@ pub(crate) fn take_ahead<C: Team>(
     }
     cut_parts(text, near, ahead.part, &mut ahead.runs);
     team.read_runs(way, text, last, &mut ahead.runs);
-    let before = Found { first, bytes };
+    let before = LinesFound { first, bytes };
     let bytes = join_runs(way, text, &ahead.runs, before, last, &mut ahead.times);
     ahead.part = next_part(ahead.part, &ahead.runs, bytes);
     Some(bytes)

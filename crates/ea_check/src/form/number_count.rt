@@ -12,7 +12,7 @@ const PIECE: usize = 240;
 
 /// The counts of a piece of text.
 #[derive(Clone, Copy)]
-struct Found {
+struct PieceCounts {
     /// The number of fields that begin in it.
     starts: u8,
     /// Whether it has a byte other than digits and blanks.
@@ -23,7 +23,7 @@ struct Found {
 
 /// The counts of a piece of text; `before` says whether a blank precedes it. The loop has no branch, so that
 /// it is vectorised.
-fn found_in(piece: &[u8], before: bool) -> Found
+fn found_in(piece: &[u8], before: bool) -> PieceCounts
     requires { length piece.now ≤ PIECE }
     ensures { result ≡ record {
       starts = starts before piece.now;
@@ -41,7 +41,7 @@ fn found_in(piece: &[u8], before: bool) -> Found
         other |= !(digit | gap);
         blank = gap;
     }
-    Found {
+    PieceCounts {
         starts,
         other,
         blank,

@@ -9,7 +9,7 @@ use std::alloc::Global;
 
 /// The node of the first line of a run, and how many bytes its lines have, without the last one.
 #[derive(Clone, Copy)]
-pub(crate) struct Found {
+pub(crate) struct LinesFound {
     pub first: u32,
     pub bytes: usize,
 }
@@ -22,7 +22,7 @@ pub(crate) struct Run {
     /// The place at which it ends.
     pub to: usize,
     /// Its lines, if it begins with a plain one.
-    pub found: Option<Found>,
+    pub found: Option<LinesFound>,
     /// Their times, without that of the last one.
     pub times: Vec<u64>,
 }
@@ -40,12 +40,12 @@ impl Run {
 }
 
 /// The lines at the front of a part of a text.
-fn lines_in(way: Direction, part: &[u8], last: u32, times: &mut Vec<u64>) -> Option<Found>
+fn lines_in(way: Direction, part: &[u8], last: u32, times: &mut Vec<u64>) -> Option<LinesFound>
     ensures { IfSome result (λ found. AreIn way part.now last times.new.items found) }
 {
     let first = leading_node(part)?;
     let bytes = take_times(way, part, first, last, times)?;
-    Some(Found { first, bytes })
+    Some(LinesFound { first, bytes })
 }
 
 /// Reads the plain lines of a part of a text, up to those of this node.
@@ -65,7 +65,7 @@ fn join_run(
     way: Direction,
     text: &[u8],
     run: &Run,
-    before: Found,
+    before: LinesFound,
     last: u32,
     times: &mut Vec<u64>,
 ) -> Option<usize>
@@ -102,7 +102,7 @@ pub(crate) fn join_runs(
     way: Direction,
     text: &[u8],
     runs: &[Run],
-    before: Found,
+    before: LinesFound,
     last: u32,
     times: &mut Vec<u64>,
 ) -> usize
@@ -114,7 +114,7 @@ pub(crate) fn join_runs(
 {
     let mut bytes = before.bytes;
     for run in runs {
-        let now = Found {
+        let now = LinesFound {
             first: before.first,
             bytes,
         };

@@ -5,7 +5,7 @@ use Rattle.ea_report.specs.Asked.{shape_of}
 use Rattle.ea_batch.specs.Sent.{AreSent}
 use Rattle.ea_batch.proofs.Sent.{sent_next, stops}
 use Rattle.std.proofs.lemmas.Option.{slice_get_read}
-use Rattle.ea_batch.specs.Drafts.{GoesOn}
+use Rattle.ea_batch.specs.Drafts.{SendsUpTo}
 use Rattle.ea_batch.proofs.Going.{goes_nowhere}
 use Rattle.ea_batch.proofs.parallel_reports.send_part.Goals as goal
 
@@ -43,7 +43,7 @@ loop-k-init g c =
     let written = c.args.progress.now.written in
     let start : from ≡ from + 0 = omega arith in
     record {
-      sent = subst (λ n. GoesOn c.args.job from n now written now written) start (goes_nowhere c.args.job from now written);
+      sent = subst (λ n. SendsUpTo c.args.job from n now written now written) start (goes_nowhere c.args.job from now written);
       bound = omega (arith, c.requires.stands.room);
       search = c.requires.stands.aided.search;
       aids = refl;
@@ -55,7 +55,7 @@ returns-clause-sends g c =
     let inv = c.loop-k.invariant in
     let end : c.args.span.from + c.loop-k.k ≡ c.args.span.to = omega (arith, c.loop-k-test.false, c.loop-k.auto.k-end, c.requires.span.0) in
     record {
-      went = subst (λ n. GoesOn c.args.job c.args.span.from n (g.W.Device.seen c.args.out.now) c.args.progress.now.written (g.W.Device.seen c.loop-k.out) c.loop-k.progress.written) end inv.sent;
+      went = subst (λ n. SendsUpTo c.args.job c.args.span.from n (g.W.Device.seen c.args.out.now) c.args.progress.now.written (g.W.Device.seen c.loop-k.out) c.loop-k.progress.written) end inv.sent;
       stands = record {
         is_job = c.requires.stands.is_job;
         room = omega (arith, inv.bound, c.loop-k-test.false, c.loop-k.auto.k-end, c.requires.span.0);

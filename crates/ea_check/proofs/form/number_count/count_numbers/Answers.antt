@@ -1,5 +1,5 @@
 use Rattle.std.proofs.Common.{◌∙◌, ◌||◌, ap, arith, sym}
-use Rattle.ea_check.specs.declared.form.number_count.Found.{Found}
+use Rattle.ea_check.specs.declared.form.number_count.PieceCounts.{PieceCounts}
 use Rattle.ea_check.specs.Counted.{has_other}
 use Rattle.ea_check.proofs.Counting.{ended, fields_begin, more_other, more_starts, no_numbers, numbers_written, starts_few}
 use Rattle.ea_check.proofs.form.number_count.count_numbers.Goals as goal
@@ -11,9 +11,9 @@ loop-rest-preserved c =
     let piece = c.split_at.result.0.now in
     let after = c.split_at.result.1.now in
     let found = c.found_in-found.ensures in
-    let begun = ap (λ (f : Found). f.starts) found in
-    let other = ap (λ (f : Found). f.other) found in
-    let ended = ap (λ (f : Found). f.blank) found in
+    let begun = ap (λ (f : PieceCounts). f.starts) found in
+    let other = ap (λ (f : PieceCounts). f.other) found in
+    let ended = ap (λ (f : PieceCounts). f.blank) found in
     let cut = c.split_at.ensures.by_index.0 in
     record {
       few = omega (arith, was.few, c.split_at.ensures.front_len, c.split_at.ensures.back_len, starts_few c.loop-rest.blank piece, begun, c.from-count.ensures);

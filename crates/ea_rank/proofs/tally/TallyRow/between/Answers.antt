@@ -1,7 +1,7 @@
 use Rattle.std.proofs.Common.{◌≡◌, ◌+◌, ◌<◌, ℕ, List, length, get_or, ap, ◌∙◌, arith}
 use Rattle.std.proofs.lemmas.List.{get_or_read}
 use Rattle.ea_rank.proofs.Tallying.{added-take, added-take_more}
-use Rattle.ea_rank.proofs.tally.Row.between.Goals as goal
+use Rattle.ea_rank.proofs.tally.TallyRow.between.Goals as goal
 
 pub overflow_add-sum : goal.overflow_add-sum
 overflow_add-sum c =
