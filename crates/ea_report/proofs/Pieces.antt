@@ -2,7 +2,7 @@
 use Rattle.std.proofs.Common.{◌≡◌, ℕ, zero, suc, ◌+◌, ◌-◌, ◌*◌, ◌^◌, ◌<◌, ◌≤◌, min, List, [], ◌∷◌, ◌++◌, length, take, drop, refl, ap, ap₂, sym, ◌∙◌, inl, inr, arith, subst, length-drop, length-append, append-nil, append_assoc, get_or, map}
 use Rattle.std.proofs.Math.Seq.{take-add, take-length, take-append-add}
 use Rattle.std.proofs.lemmas.List.{take-append-le}
-use Rattle.ea_report.specs.Report.{each_node}
+use Rattle.ea_report.specs.Report.{each_node, some_nodes}
 use Rattle.std.specs.Prelude.{Option, Result, Ok, Err, IfErr, OnOk}
 use Rattle.std.specs.List.{flat_map}
 use Rattle.std.specs.Io.KnownBytes.{Appends}
@@ -104,6 +104,32 @@ pub each_node-next : (text : ℕ → List ℕ) (i : ℕ) → each_node text (i +
 each_node-next text i =
     let next : i + 1 ≡ suc i = omega arith in
     ap (each_node text) next ∙ ap (λ n. each_node text i ++ text n) (sym next)
+
+-- The texts of nodes up to one, and then those of some more.
+pub each_node-then : (text : ℕ → List ℕ) (after count : ℕ) → each_node text after ++ some_nodes text after count ≡ each_node text (after + count)
+each_node-then text after zero =
+    let none : after ≡ after + 0 = omega arith in
+    append-nil (each_node text after) ∙ ap (each_node text) none
+each_node-then text after (suc n) =
+    let more : suc after + n ≡ after + suc n = omega arith in
+    sym (append_assoc (each_node text after) (text (suc after)) (some_nodes text (suc after) n)) ∙ each_node-then text (suc after) n ∙ ap (each_node text) more
+
+-- The text of the first of some nodes, and those of the others.
+pub some_nodes-first : (text : ℕ → List ℕ) (after node n : ℕ) → suc after ≡ node → some_nodes text after (n + 1) ≡ text node ++ some_nodes text node n
+some_nodes-first text after node n e =
+    let next : n + 1 ≡ suc n = omega arith in
+    ap (some_nodes text after) next ∙ ap (λ m. text m ++ some_nodes text m n) e
+
+-- The texts of all nodes begin with those.
+pub each_node-front : (text : ℕ → List ℕ) (after count n : ℕ) → after + count ≤ n → (rest : List ℕ) × (each_node text n ≡ (each_node text after ++ some_nodes text after count) ++ rest)
+each_node-front text after count n few =
+    let whole : after + count + (n - (after + count)) ≡ n = omega (arith, few) in
+    (some_nodes text (after + count) (n - (after + count)), sym (ap (λ t. t ++ some_nodes text (after + count) (n - (after + count))) (each_node-then text after count) ∙ each_node-then text (after + count) (n - (after + count)) ∙ ap (each_node text) whole))
+
+-- The same texts by other names.
+pub each_node-as : (text other : ℕ → List ℕ) → ((node : ℕ) → text node ≡ other node) → (n : ℕ) → each_node text n ≡ each_node other n
+each_node-as text other same zero = refl
+each_node-as text other same (suc n) = ap₂ (λ a b. a ++ b) (each_node-as text other same n) (same (suc n))
 
 -- A text that stops while more of it is pending stops as the longer text.
 pub stops_after : {T : Type 0} (r : Result T WriteFault) (old new : Seen) (d : Delivery) (pending more : List ℕ) → pending ≡ d.pending ++ more

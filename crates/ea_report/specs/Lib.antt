@@ -1,5 +1,6 @@
 pub mod FaultNumbers
 pub mod Report
+pub mod Times
 pub mod Asked
 pub mod Sent
 pub mod Writers

@@ -48,6 +48,11 @@ abbrev pub each_node : (ℕ → List ℕ) → ℕ → List ℕ
 each_node text zero = []
 each_node text (suc n) = each_node text n ++ text (suc n)
 
+-- The texts of this many nodes after a node.
+abbrev pub some_nodes : (ℕ → List ℕ) → ℕ → ℕ → List ℕ
+some_nodes text after zero = []
+some_nodes text after (suc n) = text (suc after) ++ some_nodes text (suc after) n
+
 -- A problem that asks all of this many nodes: its sources, then each node.
 abbrev pub text_of_all : Bool → ℕ → List Source → Answered → List ℕ
 text_of_all walks nodes sources answer = flat_map source_line sources ++ each_node (node_text walks answer) nodes
@@ -97,6 +102,17 @@ asked_line Turned target source = turned_pair_line target source
 abbrev pub time_line : Direction → ℕ → Option ℕ → List ℕ
 time_line Forward node time = arrival_line node time
 time_line Turned node time = departure_line node time
+
+-- What is shown of a time, or of none.
+abbrev pub shown_time : Direction → Option ℕ → List ℕ
+shown_time Forward (Some time) = decimal time
+shown_time Forward None = codes "inf"
+shown_time Turned (Some time) = decimal (HORIZON - time)
+shown_time Turned None = codes "none"
+
+-- The line of a node's time in an answer.
+abbrev pub node_time : Direction → Answered → ℕ → List ℕ
+node_time direction answer node = time_line direction node (arrival_of answer node)
 
 abbrev pub way_text : Direction → ℕ → Option (List ℕ) → List ℕ
 way_text Forward node walk = walk_text node walk

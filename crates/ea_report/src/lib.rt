@@ -9,6 +9,7 @@ mod sender;
 mod stats;
 mod style;
 mod text_pieces;
+mod time_lines;
 mod walk_texts;
 
 pub use direct_text::Direct;

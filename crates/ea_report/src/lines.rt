@@ -1,19 +1,20 @@
 //! The lines of a report.
-ghost use Rattle.std.specs.Prelude.{◌≡◌, ◌≤◌, ◌<◌, ◌+◌, ◌++◌, ℕ, List, OnOk, Some, decimal, drop, length, reverse, true};
-ghost use Rattle.ea_report.specs.Report.{spaced, source_line, arrival_line, walk_line, pair_line, walk_text};
-ghost use Rattle.ea_report.specs.Report.{asked_line, departure_line, driven_text, reported_node, start_line, target_line, time_line, turned_pair_line, way_text};
+ghost use Rattle.std.specs.Prelude.{◌≡◌, ◌++◌, ℕ, List, OnOk, decimal, length, reverse, true};
+ghost use Rattle.ea_report.specs.Report.{spaced, source_line, walk_line, pair_line, walk_text};
+ghost use Rattle.ea_report.specs.Report.{asked_line, driven_text, reported_node, start_line, target_line, time_line, turned_pair_line, way_text};
 ghost use Rattle.ea_search.specs.Answers.{walk_of};
 ghost use Rattle.ea_search.specs.Links.{linked_walk};
 ghost use Rattle.ea_report.specs.Asked.{MayWriteNode};
 ghost use Rattle.ea_report.specs.Walks.{HasWalk, arcs_text};
 
 use crate::style::Style;
+use crate::time_lines::{LINE, put_time};
 use crate::walk_texts::ArcTexts;
 use ea_base::{Direction, HORIZON};
 use ea_paths::Answer;
 use ea_road::Source;
 use ea_search::Link;
-use itoa::{Buffer, write_digits};
+use itoa::Buffer;
 use std::alloc::AllocError;
 
 /// Appends a number after a space.
@@ -61,60 +62,6 @@ pub(crate) fn push_start(
     }
 }
 
-/// At least the length in bytes of an arrival's line.
-const LINE: usize = 64;
-
-/// Writes a space and a number that ends at a place of a line. Returns the place of the space.
-fn put_number(line: &mut [u8], end: usize, number: u64) -> usize
-    requires { (21 ≤ end) × (end ≤ length line.old) }
-    ensures start { result + length (spaced (decimal number)) ≡ end }
-    ensures low { end ≤ result + 21 }
-    ensures written { drop result line.new ≡ spaced (decimal number) ++ drop end line.old }
-{
-    let start = write_digits(number, line, end) - 1;
-    line[start] = b' ';
-    start
-}
-
-/// Appends the line of a known arrival, built from its end.
-fn push_known(text: &mut Vec<u8>, node: u32, arrival: u64) -> Result<(), AllocError>
-    ensures { OnOk result (text.new.items ≡ text.old.items ++ arrival_line node (Some arrival)) }
-{
-    let mut line = [b'\n'; LINE];
-    let end = put_number(&mut line, LINE - 1, arrival);
-    let start = put_number(&mut line, end, u64::from(node)) - 1;
-    line[start] = b'd';
-    text.extend_from_slice(&line[start..])
-}
-
-/// Appends the line of an arrival.
-fn push_arrival(text: &mut Vec<u8>, node: u32, arrival: Option<u64>) -> Result<(), AllocError>
-    ensures { OnOk result (text.new.items ≡ text.old.items ++ arrival_line node arrival) }
-{
-    match arrival {
-        Some(arrival) => push_known(text, node, arrival),
-        None => {
-            text.push(b'd')?;
-            push_number(text, u64::from(node))?;
-            text.extend_from_slice(b" inf\n")
-        }
-    }
-}
-
-/// Appends the line of a latest departure, by its time in the turned network.
-fn push_departure(text: &mut Vec<u8>, node: u32, time: Option<u64>) -> Result<(), AllocError>
-    ensures { OnOk result (text.new.items ≡ text.old.items ++ departure_line node time) }
-{
-    match time {
-        Some(time) => push_known(text, node, HORIZON.saturating_sub(time)),
-        None => {
-            text.push(b'd')?;
-            push_number(text, u64::from(node))?;
-            text.extend_from_slice(b" none\n")
-        }
-    }
-}
-
 /// Appends the line of a node's time.
 fn push_time(
     text: &mut Vec<u8>,
@@ -124,10 +71,9 @@ fn push_time(
 ) -> Result<(), AllocError>
     ensures { OnOk result (text.new.items ≡ text.old.items ++ time_line direction node time) }
 {
-    match direction {
-        Direction::Forward => push_arrival(text, node, time),
-        Direction::Turned => push_departure(text, node, time),
-    }
+    let mut line = [0u8; LINE];
+    let start = put_time(&mut line, LINE, node, time, direction);
+    text.extend_from_slice(&line[start..])
 }
 
 /// Appends the line of a walk with this number of arcs, by their text.

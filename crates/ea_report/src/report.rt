@@ -1,7 +1,8 @@
 //! Reports, written to a device in large pieces.
 ghost use Rattle.std.specs.Prelude.{◌≡◌, ◌<◌, ◌≤◌, ◌+◌, ◌^◌, ◌*◌, ◌++◌, [], OnOk, IfOk, IfErr, length, true};
 ghost use Rattle.std.specs.List.{flat_map};
-ghost use Rattle.ea_report.specs.Report.{asked_line, each_node, node_count, report_text, reported_node, reported_nodes, start_line};
+ghost use Rattle.ea_report.specs.Report.{asked_line, each_node, node_count, node_time, report_text, reported_node, reported_nodes, start_line};
+ghost use Rattle.ea_report.specs.Times.{MayPutTimes, times_text};
 ghost use Rattle.ea_report.specs.Delivery.{all_sent};
 ghost use Rattle.ea_report.specs.Deliverers.{delivery_of};
 ghost use Rattle.ea_report.specs.Sent.{IsCutBy, IsWhole};
@@ -15,6 +16,7 @@ use crate::lines::{push_asked, push_node, push_start};
 use crate::pending_text::Pending;
 use crate::sender::send;
 use crate::style::Style;
+use crate::time_lines::{TimeSpan, push_times};
 use crate::walk_texts::ArcTexts;
 use ea_base::Direction;
 use ea_bytes::ByteOut;
@@ -53,6 +55,11 @@ pub struct WriteFault {
 
 /// From this number of bytes on, pending text is sent.
 const PIECE: usize = 65_536;
+
+/// How many lines of times are built at once, and the bytes of the buffer for them.
+const LINES: u32 = 64;
+
+const BUFFER: usize = 4_096;
 
 impl Pending {
     fn new(alloc: Global) -> Self
@@ -212,8 +219,8 @@ impl Pending {
         Ok(())
     }
 
-    /// Adds the lines of each node, all of which are asked.
-    fn put_each<W: ByteOut>(
+    /// Adds the lines of each node with its walk; all are asked.
+    fn put_each_walk<W: ByteOut>(
         &mut self,
         alloc: Global,
         answer: &Answer,
@@ -232,6 +239,74 @@ impl Pending {
             self.put_node(&mut arcs, answer, i + 1, style, out)?;
         }
         Ok(())
+    }
+
+    /// Adds the lines of the times of this many nodes after a node, built in a buffer.
+    fn put_some_times<W: ByteOut>(
+        &mut self,
+        buffer: &mut [u8],
+        answer: &Answer,
+        span: TimeSpan,
+        out: &mut W,
+    ) -> Result<(), WriteFault>
+        requires { MayPutTimes (length buffer.old) answer.now span }
+        ensures { AddsOrStops (W.seen out.old) (delivery_of self.old) (W.seen out.new)
+            (delivery_of self.new) 1 (times_text answer.now span) result }
+    {
+        match push_times(&mut self.text, buffer, answer, span) {
+            Ok(()) => self.flush_large(out),
+            Err(_) => Err(self.fault(WriteFaultKind::OutOfMemory)),
+        }
+    }
+
+    /// Adds the lines of the times of all nodes.
+    fn put_all_times<W: ByteOut>(
+        &mut self,
+        answer: &Answer,
+        nodes: u32,
+        direction: Direction,
+        out: &mut W,
+    ) -> Result<(), WriteFault>
+        requires held { length self.old.text.items < PIECE }
+        requires nodes { (answer.now.nodes ≡ nodes) × (answer.now.target ≡ None) }
+        ensures { AddsOrStops (W.seen out.old) (delivery_of self.old) (W.seen out.new)
+            (delivery_of self.new) nodes
+            (each_node (node_time direction answer.now) nodes) result }
+    {
+        let mut buffer = [0u8; BUFFER];
+        let mut after = 0u32;
+        while after < nodes {
+            let span = TimeSpan {
+                after,
+                count: (nodes - after).min(LINES),
+                direction,
+            };
+            self.put_some_times(&mut buffer, answer, span, out)?;
+            after += span.count;
+        }
+        Ok(())
+    }
+
+    /// Adds the lines of each node, all of which are asked.
+    fn put_each<W: ByteOut>(
+        &mut self,
+        alloc: Global,
+        answer: &Answer,
+        nodes: u32,
+        style: Style,
+        out: &mut W,
+    ) -> Result<(), WriteFault>
+        requires held { length self.old.text.items < PIECE }
+        requires nodes { MayWriteNodes style None nodes answer.now }
+        ensures { AddsOrStops (W.seen out.old) (delivery_of self.old) (W.seen out.new)
+            (delivery_of self.new) nodes
+            (each_node (reported_node style answer.now) nodes) result }
+    {
+        if style.walks {
+            self.put_each_walk(alloc, answer, nodes, style, out)
+        } else {
+            self.put_all_times(answer, nodes, style.direction, out)
+        }
     }
 }
 

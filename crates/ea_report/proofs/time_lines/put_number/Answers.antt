@@ -1,7 +1,7 @@
 use Rattle.std.proofs.Common.{◌≡◌, ◌+◌, ◌-◌, ◌<◌, ◌∷◌, ap, arith, drop, length, ◌∙◌}
 use Rattle.std.proofs.lemmas.Fmt.{length-decimal-le}
 use Rattle.std.proofs.lemmas.List.{drop-set}
-use Rattle.ea_report.proofs.lines.put_number.Goals as goal
+use Rattle.ea_report.proofs.time_lines.put_number.Goals as goal
 
 pub write_digits-start-requires : goal.write_digits-start-requires
 write_digits-start-requires c =
@@ -18,9 +18,9 @@ returns-clause-low c = omega (arith, length-decimal-le 20 c.args.number (omega a
 
 pub returns-clause-written : goal.returns-clause-written
 returns-clause-written c =
-    let line = c.write_digits-start.new.buf in
+    let text = c.write_digits-start.new.buf in
     let start = c.write_digits-start.result in
     let digits = length-decimal-le 20 c.args.number (omega arith) (omega arith) c.ranges.number.fits in
-    let inside : start - 1 < length line = omega (arith, digits, c.requires.0, c.requires.1, c.write_digits-start.ensures.start, c.write_digits-start.auto.buf) in
+    let inside : start - 1 < length text = omega (arith, digits, c.requires.0, c.requires.1, c.write_digits-start.ensures.start, c.write_digits-start.auto.buf) in
     let next : start - 1 + 1 ≡ start = omega (arith, digits, c.requires.0, c.write_digits-start.ensures.start) in
-    drop-set line (start - 1) 32 inside ∙ ap (λ n. 32 ∷ drop n line) next ∙ ap (λ rest. 32 ∷ rest) c.write_digits-start.ensures.written
+    drop-set text (start - 1) 32 inside ∙ ap (λ n. 32 ∷ drop n text) next ∙ ap (λ rest. 32 ∷ rest) c.write_digits-start.ensures.written

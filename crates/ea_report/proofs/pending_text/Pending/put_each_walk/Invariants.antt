@@ -3,7 +3,7 @@ use Rattle.ea_report.specs.Deliverers.{delivery_of}
 use Rattle.ea_report.specs.Report.{each_node, reported_node}
 use Rattle.ea_report.specs.Sent.{Adds}
 use Rattle.ea_report.specs.declared.report.TheConstants.{PIECE}
-use Rattle.ea_report.proofs.pending_text.Pending.put_each.Given as goal
+use Rattle.ea_report.proofs.pending_text.Pending.put_each_walk.Given as goal
 
 abbrev pub invariant-loop-i : goal.invariant-loop-i
 invariant-loop-i g l = record {
