@@ -361,8 +361,8 @@ def layouts(program, folder):
     for name, is_laid_out in (("rows", False), ("random", True)):
         one, many = (peak(program, f"run {name}.gr {sources}.ss --at-once 1", folder) for sources in ("one", "sixteen"))
         yield f"resources: a grid numbered {name}: laid out for sixteen problems", (many > 1.2 * one) == is_laid_out or (one, many), True
-    # The copy takes 32 bytes an arc and some 20 a node; an array of arcs that stays takes 12 or 16 an arc more.
-    arcs, told = 4 * 400 * 399, 38
+    # The copy takes 28 bytes an arc and some 20 a node; an array of arcs that stays takes 12 or 16 an arc more.
+    arcs, told = 4 * 400 * 399, 34
     rows, scattered = (min(peak(program, f"run {name}.gr sixteen.ss --at-once 1", folder) for _ in range(3)) for name in ("rows", "random"))
     an_arc = 1024 * (scattered - rows) / arcs
     yield "resources: bytes an arc that a layout takes", told / 1.25 <= an_arc <= 1.25 * told or an_arc, True

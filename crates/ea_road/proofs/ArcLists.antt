@@ -1,10 +1,11 @@
 -- Arcs stored beside their classes.
 use Rattle.std.proofs.Common.{◌≡◌, ◌∙◌, refl, sym, ℕ, zero, suc, ◌+◌, ◌<◌, List, [], ◌∷◌, length, map, get_or, arith, ap}
 use Rattle.std.specs.Prelude.{Some, slice_get}
-use Rattle.std.proofs.lemmas.Option.{get_or_from_slice_get}
+use Rattle.std.proofs.lemmas.Option.{get_or_from_slice_get, slice_get-get_or, slice_get_within}
+use Rattle.std.proofs.lemmas.List.{get_or-map}
 use Rattle.ea_base.specs.declared.graph.RawArc.{RawArc}
 use Rattle.ea_road.specs.declared.arc.Arc.{Arc}
-use Rattle.ea_road.specs.ArcLists.{arcs_beside}
+use Rattle.ea_road.specs.ArcLists.{AreOfClasses, arcs_beside, without_class}
 use Rattle.ea_road.specs.Assigned.{arcs_from, class_of, classed_arc}
 
 pub length-beside : (classes : List ℕ) (place : ℕ) (raw : List RawArc) → length (arcs_beside classes place raw) ≡ length raw
@@ -50,8 +51,8 @@ all_assigned classes assigned raw each = beside_assigned classes assigned 0 raw 
     none : (place : ℕ) → 0 + place ≡ place
     none place = omega arith
 
-abbrev pub without_class : Arc → RawArc
-without_class arc = record { tail = arc.tail; head = arc.head; weight = arc.weight }
+abbrev no_arc : Arc
+no_arc = record { tail = 0; head = 0; weight = 0; class = 0 }
 
 abbrev pub class_in : Arc → ℕ
 class_in arc = arc.class
@@ -67,8 +68,15 @@ beside_of classes from (arc ∷ rest) none each =
     rw there at (each (suc place) (omega (arith, inside)))) in
     ap (λ c. classed_arc (without_class arc) c ∷ arcs_beside classes (from + 1) (map without_class rest)) one ∙ ap (λ others. arc ∷ others) more
 
-pub all_of : (classes : List ℕ) (arcs : List Arc) (none : Arc) → ((place : ℕ) → place < length arcs → get_or classes place 0 ≡ (get_or arcs place none).class) → arcs_beside classes 0 (map without_class arcs) ≡ arcs
-all_of classes arcs none each = beside_of classes 0 arcs none (λ place inside. rw (zero_more place) (each place inside))
+-- if the classes are those of arcs, none outside the list
+pub all_of : (classes : List ℕ) (arcs : List Arc) → AreOfClasses classes arcs → arcs_beside classes 0 (map without_class arcs) ≡ arcs
+all_of classes arcs each = beside_of classes 0 arcs no_arc (λ place inside. rw (zero_more place) (each place (get_or arcs place no_arc) (slice_get-get_or arcs place no_arc inside)))
   where
     zero_more : (place : ℕ) → 0 + place ≡ place
     zero_more place = omega arith
+
+-- the classes of all arcs, one for each
+pub of_classes : (arcs : List Arc) → AreOfClasses (map class_in arcs) arcs
+of_classes arcs place arc found =
+    get_or-map class_in arcs place no_arc 0 (slice_get_within arcs place arc found)
+    ∙ ap class_in (get_or_from_slice_get arcs place arc no_arc found)

@@ -1,5 +1,6 @@
 //! The arcs of a network in the order of their numbers, as they are stored.
-ghost use Rattle.std.specs.Prelude.{◌≡◌, ◌<◌, [], IfOk, Some, length, map, slice_get};
+ghost use Rattle.std.specs.Prelude.{◌≡◌, ◌<◌, [], IfOk, Some, length, map, slice_get, true};
+ghost use Rattle.ea_road.specs.ArcLists.{AreOfClasses, without_class};
 ghost use Rattle.ea_road.specs.Assigned.{AreAssigned, arcs_with};
 ghost use Rattle.ea_road.specs.Turned.{turned_arc, turned_raw};
 
@@ -53,20 +54,12 @@ impl ArcList {
         }
     }
 
-    /// A list of these arcs. Fails only if memory for the list is refused.
+    /// A list of these arcs, without a list of classes if all are plain. Fails only if memory for the list is refused.
     pub fn of(alloc: Global, arcs: &[Arc]) -> Result<ArcList, AllocError>
         ensures { IfOk result (λ list. list ≡ arcs.now) }
     {
-        let mut raw = Vec::with_capacity(alloc, arcs.len())?;
-        let mut classes = Vec::with_capacity(alloc, arcs.len())?;
-        for arc in arcs {
-            raw.push_reserved(RawArc {
-                tail: arc.tail,
-                head: arc.head,
-                weight: arc.weight,
-            });
-            classes.push_reserved(arc.class);
-        }
+        let raw = raw_of(alloc, arcs)?;
+        let classes = classes_in(alloc, arcs)?;
         Ok(ArcList { raw, classes })
     }
 
@@ -95,6 +88,47 @@ impl ArcList {
     {
         classed_arc(self.raw[place], class_at(&self.classes, place))
     }
+}
+
+/// Arcs as they would be read, without their classes.
+fn raw_of(alloc: Global, arcs: &[Arc]) -> Result<Vec<RawArc>, AllocError>
+    ensures { IfOk result (λ raw. raw.items ≡ map without_class arcs.now) }
+{
+    let mut raw = Vec::with_capacity(alloc, arcs.len())?;
+    for arc in arcs {
+        raw.push_reserved(RawArc {
+            tail: arc.tail,
+            head: arc.head,
+            weight: arc.weight,
+        });
+    }
+    Ok(raw)
+}
+
+/// Whether all arcs have class 0.
+fn are_plain(arcs: &[Arc]) -> bool
+    ensures { result ≡ true → AreOfClasses [] arcs.now }
+{
+    for arc in arcs {
+        if arc.class != 0 {
+            return false;
+        }
+    }
+    true
+}
+
+/// The classes of arcs; none if all are 0.
+fn classes_in(alloc: Global, arcs: &[Arc]) -> Result<Vec<u32>, AllocError>
+    ensures { IfOk result (λ classes. AreOfClasses classes.items arcs.now) }
+{
+    if are_plain(arcs) {
+        return Ok(Vec::new(alloc));
+    }
+    let mut classes = Vec::with_capacity(alloc, arcs.len())?;
+    for arc in arcs {
+        classes.push_reserved(arc.class);
+    }
+    Ok(classes)
 }
 
 /// Turns arcs round.
