@@ -118,9 +118,9 @@ uint32_t earliest_road_prepared(earliest_road *road, earliest_road *prepared);
  * Any order serves; a good one makes searches quick. It takes a fraction of the time, since no order is looked for, and one order serves
  * roads with other weights and timetables. Refusals besides: EARLIEST_NO_ORDER if a node is missing or there twice. */
 uint32_t earliest_road_prepared_by(earliest_road *road, const uint32_t *order, size_t count, earliest_road *prepared);
-/* The same over the order of `like`, a third handle, which holds a prepared road with as many nodes: so roads with other weights and
- * timetables on the same arcs are prepared in a fraction of the time. Refusals besides: EARLIEST_NO_ORDER if `like` isn't prepared or has
- * another number of nodes. */
+/* The same for other weights and timetables on the arcs of `like`, a third handle, which holds a prepared road with as many nodes: its order
+ * and its upward arcs are taken as they are, so it takes a fraction of the time. If an arc was added that they don't join, they are made
+ * anew over the same order. Refusals besides: EARLIEST_NO_ORDER if `like` isn't prepared or has another number of nodes. */
 uint32_t earliest_road_prepared_like(earliest_road *road, earliest_road *like, earliest_road *prepared);
 /* Lays a road out: its network once more, under numbers by which neighbours are near, for searches to all nodes in roads of at least 65,536
  * nodes whose arcs lead far away in the road's own numbers. They take a fraction of the time, and arrivals and walks are the same; it takes
@@ -166,7 +166,7 @@ void earliest_search_free(earliest_search *search);
 
 /* Turns a road round, for searches for latest departures, which share it; it takes as much memory as the road's network once more. `turned`
  * holds it then, with a share of the road, and what it held before is let go; earliest_road_free lets it go. A road that is laid out or
- * prepared is so turned round, too, over the same order: a preparation takes about as long as by earliest_road_prepared_like. Refusals: EARLIEST_NO_ROAD, 13. */
+ * prepared is so turned round, too, over the same upward arcs: it takes about as long as by earliest_road_prepared_like. Refusals: EARLIEST_NO_ROAD, 13. */
 uint32_t earliest_road_turned(earliest_road *road, earliest_road *turned);
 /* Makes a search for latest departures on a road turned round; else like earliest_search_new. The calls of this part take such a search,
  * and those above a search made by earliest_search_new: each refuses the other sort (EARLIEST_NO_SEARCH). Both are let go by

@@ -264,7 +264,7 @@ public:
         EARLIEST_TEST_(earliest_road_prepared_by(&core_->handle, order.data(), order.size(), &made.core_->handle), earliest_fault{});
         return made.counted();
     }
-    /// The same over the order of a prepared road with as many nodes, as one with other weights or timetables on the same arcs. A road that
+    /// The same for other weights or timetables on the arcs of a prepared road, whose order and upward arcs are taken. A road that
     /// isn't prepared is refused (EARLIEST_NO_ORDER).
     detail::returned<road> prepared(const road &like) const {
         EARLIEST_TEST_(core_ && like.core_ ? 0u : std::uint32_t{EARLIEST_NO_ROAD}, earliest_fault{});

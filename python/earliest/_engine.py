@@ -150,8 +150,9 @@ class Road:
         it. Any serves, and a good one makes searches quick. None is looked for then, which is most of the time, and one order serves roads
         with other weights and timetables. A list without a node or with one twice is a Failure (27 NoOrder).
 
-        `like` is a prepared road with as many nodes, as one with other weights or timetables on the same arcs, whose order is taken. One that
-        isn't prepared is a Failure (27 NoOrder); `order` beside it is a ValueError.
+        `like` is a prepared road with as many nodes, as one with other weights or timetables on the same arcs. Its order and its upward arcs
+        are taken as they are, which is quickest of all; if an arc was added that they don't join, its order alone. One that isn't prepared
+        is a Failure (27 NoOrder); `order` beside it is a ValueError.
         """
         if like is None:
             self._core.prepare(None if order is None else self._list(order))

@@ -205,6 +205,12 @@ class Answers(Case):
         self.assertIs(second.prepare(like=first.prepare()), second)
         self.assertEqual([flat(it.pairs(sources, targets, departures)) for it in (first, second, first.prepare(like=first))], [*wants, wants[0]])
         self.assertTrue(first.prepared and second.prepared)
+        # Other weights of the same arcs, some of these arcs, and one more arc.
+        slower = [(tail, head, 2 * weight + 1, kind) for tail, head, weight, kind in net.arcs]
+        for arcs in (slower, slower[::2], [*slower, (1, 40, 1, 0)], [*slower, (40, 1, 0, 0), (7, 33, 2, 0)]):
+            changed = plain.Network(40, arcs, net.kinds[1:])
+            want = [changed.least([(source, departure)])[target - 1] for source, target, departure in zip(sources, targets, departures)]
+            self.assertEqual(flat(earliest.Road(changed.gr(), changed.tp()).prepare(like=first).pairs(sources, targets, departures)), want)
         with self.assertRaises(ValueError):
             first.prepare(range(1, 41), like=second)
         second.close()

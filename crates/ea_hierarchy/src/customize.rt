@@ -1,5 +1,5 @@
 //! The numbers at upward arcs: those of the network's arcs, and over the lower ends of pairs.
-ghost use Rattle.std.specs.Prelude.{◌≡◌, ◌≤◌, ◌<◌, ◌+◌, ◌-◌, ◌^◌, ℕ, IfOk, length, slice_index};
+ghost use Rattle.std.specs.Prelude.{◌≡◌, ◌≤◌, ◌<◌, ◌+◌, ◌-◌, ◌^◌, ℕ, IfOk, false, length, slice_index, true};
 ghost use Rattle.ea_hierarchy.specs.Hierarchies.{AreNumbers, AreOver, AreTriangles, AreUpward, HasArc, IsFrom, Joins, Lowers};
 ghost use Rattle.ea_hierarchy.specs.Numbers.{plus};
 
@@ -35,12 +35,13 @@ impl Numbers {
     }
 }
 
-/// The place of the upward arc from a rank to another, by halves.
-pub(crate) fn place_of(upward: &Upward, low: u32, high: u32) -> usize
+/// The only place at which the upward arc from a rank to another may be, by halves.
+fn seek(upward: &Upward, low: u32, high: u32) -> usize
     requires upward { AreUpward upward.now.firsts.items upward.now.heads.items }
     requires low { low < length upward.now.firsts.items - 1 }
-    requires arc { HasArc upward.now.firsts.items upward.now.heads.items low high }
-    ensures { Joins upward.now.firsts.items upward.now.heads.items low high result }
+    ensures from { slice_index upward.now.firsts.items low ≤ result }
+    ensures is { (place : ℕ) → Joins upward.now.firsts.items upward.now.heads.items low high place
+        → result ≡ place }
 {
     let mut from = upward.firsts[low as usize] as usize;
     let mut to = upward.firsts[low as usize + 1] as usize;
@@ -53,6 +54,31 @@ pub(crate) fn place_of(upward: &Upward, low: u32, high: u32) -> usize
         }
     }
     from
+}
+
+/// The place of the upward arc from a rank to another.
+pub(crate) fn place_of(upward: &Upward, low: u32, high: u32) -> usize
+    requires upward { AreUpward upward.now.firsts.items upward.now.heads.items }
+    requires low { low < length upward.now.firsts.items - 1 }
+    requires arc { HasArc upward.now.firsts.items upward.now.heads.items low high }
+    ensures { Joins upward.now.firsts.items upward.now.heads.items low high result }
+{
+    seek(upward, low, high)
+}
+
+/// Whether there is an upward arc from a rank to another.
+pub(crate) fn has_arc(upward: &Upward, low: u32, high: u32) -> bool
+    requires upward { AreUpward upward.now.firsts.items upward.now.heads.items }
+    requires low { low < length upward.now.firsts.items - 1 }
+    ensures is { result ≡ true → HasArc upward.now.firsts.items upward.now.heads.items low high }
+    ensures none { result ≡ false
+        → HasArc upward.now.firsts.items upward.now.heads.items low high → ⊥ }
+{
+    let place = seek(upward, low, high);
+    if place >= upward.firsts[low as usize + 1] as usize {
+        return false;
+    }
+    upward.heads[place] == high
 }
 
 /// The first place from one on at which an upward arc has a head.

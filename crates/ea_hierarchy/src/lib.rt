@@ -7,6 +7,7 @@ mod cells;
 mod chains;
 mod cover;
 mod customize;
+mod joined;
 mod landmarks;
 pub mod laws;
 mod numbers;

@@ -1,4 +1,4 @@
-ghost use Rattle.std.specs.Prelude.{◌≡◌, ◌≤◌, ◌<◌, ◌+◌, ◌-◌, ◌^◌, ℕ, IfErr, IfOk, IfSome, length};
+ghost use Rattle.std.specs.Prelude.{◌≡◌, ◌≤◌, ◌<◌, ◌+◌, ◌-◌, ◌^◌, ℕ, IfErr, IfNone, IfOk, IfSome, length};
 ghost use Rattle.ea_road.specs.Roads.{IsNode, top_class};
 ghost use Rattle.ea_hierarchy.specs.Growth.{AreJoined};
 ghost use Rattle.ea_hierarchy.specs.Hierarchies.{AreNumbers, AreParents, AreRanks, AreUpward, IsHierarchy, rank_of};
@@ -9,13 +9,14 @@ ghost use Rattle.ea_hierarchy.specs.declared.unprepared.Unprepared.TheVariants.{
 use crate::chains::chains_of;
 use crate::cover::cover;
 use crate::customize::{Numbers, relax};
+use crate::joined::are_joined;
 use crate::landmarks::Landmarks;
 use crate::numbers::NONE;
 use crate::postorder::elimination_order;
 use crate::ranks::{is_order, ranks_of};
 use crate::trimmed::Trimmed;
 use crate::unprepared::Unprepared;
-use crate::upward::{Limits, Upward, mean_arcs_above, upward_of};
+use crate::upward::{Limits, Upward, copy_of, mean_arcs_above, upward_of};
 use crate::waiting::lists_of;
 use ea_road::Network;
 use ea_travel_times::TravelTimes;
@@ -228,6 +229,25 @@ impl Prepared {
         let Some(upward) = upward_over(alloc, network, &ranks)? else {
             return Err(Unprepared::NotWorth);
         };
+        Ok(Prepared::on(alloc, network, times, ranks, upward)?)
+    }
+
+    /// A preparation of a network over upward arcs that join the ends of its arcs.
+    fn on<T: TravelTimes>(
+        alloc: Global,
+        network: &Network,
+        times: &T,
+        ranks: Vec<u32>,
+        upward: Upward,
+    ) -> Result<Prepared, AllocError>
+        requires classes { top_class network.now.arcs ≤ T.classes times.now }
+        requires upward { AreUpward upward.firsts.items upward.heads.items }
+        requires nodes { length upward.firsts.items ≡ network.now.nodes + 1 }
+        requires ranks { AreRanks network.now.nodes ranks.items }
+        requires joined { AreJoined network.now ranks.items upward.firsts.items upward.heads.items }
+        requires parents { AreParents upward.firsts.items upward.heads.items upward.parents.items }
+        ensures { IfOk result (IsPreparedFor network.now (T.answers times.now)) }
+    {
         let numbers = numbers_for(alloc, network, times, &ranks, &upward)?;
         let chains = chains_of(alloc, network)?;
         let near = near_by(&upward);
@@ -247,6 +267,33 @@ impl Prepared {
             near,
             landmarks,
         })
+    }
+
+    /// A preparation of a network with the same arcs, but other weights or travel times: the upward arcs stay as they are, so it takes a
+    /// part of the time of another preparation. None if they don't join the ends of each arc, as those of one that was added. An error
+    /// comes only if memory was refused.
+    pub fn like<T: TravelTimes>(
+        &self,
+        alloc: Global,
+        network: &Network,
+        times: &T,
+    ) -> Result<Option<Prepared>, AllocError>
+        requires { top_class network.now.arcs ≤ T.classes times.now }
+        ensures prepared { IfOk result (λ made. IfSome made
+            (IsPreparedFor network.now (T.answers times.now))) }
+        ensures none { IfOk result (λ made. IfNone made (IsPreparedOver network.now self.now → ⊥)) }
+    {
+        network.keeps_limits();
+        if self.nodes() != network.nodes() {
+            return Ok(None);
+        }
+        if !are_joined(network, &self.ranks, &self.upward) {
+            return Ok(None);
+        }
+        let ranks = copy_of(alloc, &self.ranks)?;
+        let upward = self.upward.again(alloc)?;
+        let made = Prepared::on(alloc, network, times, ranks, upward)?;
+        Ok(Some(made))
     }
 
     /// Makes the numbers anew for other travel times of the same arcs. If memory for the rows of arcs that are left or for landmarks is

@@ -18,6 +18,33 @@ pub(crate) struct Upward {
     pub(crate) parents: Vec<u32>,
 }
 
+/// A copy of a list.
+pub(crate) fn copy_of(alloc: Global, list: &[u32]) -> Result<Vec<u32>, AllocError>
+    ensures { IfOk result (λ copy. copy.items ≡ list.now) }
+{
+    let mut copy = Vec::with_capacity(alloc, list.len())?;
+    copy.extend_from_slice(list)?;
+    Ok(copy)
+}
+
+impl Upward {
+    /// The same upward arcs once more.
+    pub(crate) fn again(&self, alloc: Global) -> Result<Upward, AllocError>
+        ensures firsts { IfOk result (λ it. it.firsts.items ≡ self.now.firsts.items) }
+        ensures heads { IfOk result (λ it. it.heads.items ≡ self.now.heads.items) }
+        ensures parents { IfOk result (λ it. it.parents.items ≡ self.now.parents.items) }
+    {
+        let firsts = copy_of(alloc, &self.firsts)?;
+        let heads = copy_of(alloc, &self.heads)?;
+        let parents = copy_of(alloc, &self.parents)?;
+        Ok(Upward {
+            firsts,
+            heads,
+            parents,
+        })
+    }
+}
+
 /// How many upward arcs a network may have, and triangles over their lower ends, for a preparation to be worth it.
 #[derive(Clone, Copy)]
 pub(crate) struct Limits {

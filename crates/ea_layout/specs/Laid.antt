@@ -1,5 +1,5 @@
 -- Queries and searches under the numbers of a layout.
-use Rattle.std.specs.Prelude.{◌≡◌, ℕ, IfSome, List, length}
+use Rattle.std.specs.Prelude.{◌≡◌, ℕ, IfSome, IsTrue, List, is_some, length}
 use Rattle.std.specs.List.{IsAmong}
 use Rattle.ea_road.specs.declared.source.Source.{Source}
 use Rattle.ea_road.specs.Queries.{Asking, IsProblem}
@@ -18,6 +18,11 @@ pub record CanRename (numbers : List ℕ) (sources : List Source) : Type 0 where
 -- The preparation of a layout, if it has one, is of its network and of these arrivals.
 abbrev pub IsPreparedLaid : (ℕ → ℕ → ℕ → ℕ → Type 0) → Layout → Type 0
 IsPreparedLaid answers layout = IfSome layout.prepared (λ prepared. IsPreparedFor layout.network answers prepared)
+
+-- A layout that is prepared, and has as many nodes as a network.
+pub record IsPattern (roads : Roads) (layout : Layout) : Type 0 where
+  pub prepared : IsTrue (is_some layout.prepared)
+  pub nodes : length layout.nodes.items ≡ roads.nodes
 
 -- A query, a layout of its network, and arrays for its nodes.
 pub record CanFindLaid

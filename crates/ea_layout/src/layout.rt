@@ -1,8 +1,9 @@
 //! A network whose nodes are renumbered so that neighbours are near.
-ghost use Rattle.std.specs.Prelude.{◌≡◌, ◌≤◌, IfErr, IfOk, IfSome, IsTrue, None, is_some, length, map};
+ghost use Rattle.std.specs.Prelude.{◌≡◌, ◌≤◌, IfErr, IfOk, IfSome, IsTrue, None, Some, is_some, length, map};
+ghost use Rattle.ea_hierarchy.specs.Preparations.{IsPreparedFor};
 ghost use Rattle.ea_hierarchy.specs.Orders.{IsOrder};
 ghost use Rattle.ea_hierarchy.specs.declared.unprepared.Unprepared.TheVariants.{NoOrder};
-ghost use Rattle.ea_layout.specs.Laid.{IsPreparedLaid};
+ghost use Rattle.ea_layout.specs.Laid.{IsPattern, IsPreparedLaid};
 ghost use Rattle.ea_layout.specs.Orders.{AreAllPlaced, LaysOut};
 ghost use Rattle.ea_layout.specs.Renamed.{renamed_arc};
 ghost use Rattle.ea_road.specs.Roads.{IsNode, top_class};
@@ -85,6 +86,23 @@ fn renamed_arcs(alloc: Global, places: &[u32], network: &Network) -> Result<Vec<
         arcs.push(renamed(places, list.at(place)))?;
     }
     Ok(arcs)
+}
+
+/// A preparation of a network over the upward arcs of another, or over new ones in the order of its numbers.
+fn prepared_like<T: TravelTimes>(
+    alloc: Global,
+    network: &Network,
+    times: &T,
+    given: &Prepared,
+) -> Result<Prepared, Unprepared>
+    requires { top_class network.now.arcs ≤ T.classes times.now }
+    ensures prepared { IfOk result (IsPreparedFor network.now (T.answers times.now)) }
+    ensures refused { IfErr result (λ why. why ≡ NoOrder → ⊥) }
+{
+    match given.like(alloc, network, times)? {
+        Some(prepared) => Ok(prepared),
+        None => Prepared::by_numbers(alloc, network, times),
+    }
 }
 
 impl Layout {
@@ -177,20 +195,55 @@ impl Layout {
     {
         let laid = Layout::by(alloc, network, order)?;
         let prepared = Prepared::by_numbers(alloc, &laid.network, times)?;
+        Ok(laid.with(prepared))
+    }
+
+    /// The same layout with a preparation.
+    fn with(self, prepared: Prepared) -> Layout
+        ensures { result ≡ record self { prepared = Some prepared } }
+    {
         let Layout {
             places,
             nodes,
             network,
             is_for_all,
             ..
-        } = laid;
-        Ok(Layout {
+        } = self;
+        Layout {
             places,
             nodes,
             network,
             is_for_all,
             prepared: Some(prepared),
-        })
+        }
+    }
+
+    /// A network in the order of another layout, which is prepared and has as many nodes, prepared for pairs over its upward arcs: so other
+    /// weights or travel times of the same arcs take a part of the time. If an arc was added that they don't join, new ones are made over
+    /// the same order. `NoOrder` comes if the other layout isn't prepared or has another number of nodes, `NotWorth` and `OutOfMemory` as from
+    /// `prepare`.
+    pub fn prepare_like<T: TravelTimes>(
+        alloc: Global,
+        network: &Network,
+        times: &T,
+        like: &Layout,
+    ) -> Result<Layout, Unprepared>
+        requires { top_class network.now.arcs ≤ T.classes times.now }
+        ensures laid_out { IfOk result (λ layout. LaysOut network.now layout) }
+        ensures is_there { IfOk result (λ layout. IsTrue (is_some layout.prepared)) }
+        ensures prepared { IfOk result (IsPreparedLaid (T.answers times.now)) }
+        ensures refused { IfErr result (λ why. why ≡ NoOrder → IsPattern network.now like.now → ⊥) }
+    {
+        let Some(given) = &like.prepared else {
+            return Err(Unprepared::NoOrder);
+        };
+        if like.nodes.len() != network.nodes() as usize {
+            return Err(Unprepared::NoOrder);
+        }
+        let order = in_order(alloc, network, &like.nodes)?;
+        let laid = Layout::by(alloc, network, order)?;
+        let prepared = prepared_like(alloc, &laid.network, times, given)?;
+        Ok(laid.with(prepared))
     }
 
     /// A network in an order of all its nodes.

@@ -14,7 +14,12 @@ const SIDE: u32 = 40;
 const NODES: u32 = 1_600;
 
 /// A path whose arcs have a weight and a class both ways; none if it isn't a network.
-fn path(alloc: Global, nodes: u32, weight: u32, class: u32) -> Result<Option<Network>, AllocError> {
+pub(crate) fn path(
+    alloc: Global,
+    nodes: u32,
+    weight: u32,
+    class: u32,
+) -> Result<Option<Network>, AllocError> {
     let mut arcs = Vec::new(alloc);
     for low in 1..nodes {
         let high = low.saturating_add(1);

@@ -2,7 +2,7 @@
 ghost use Rattle.ea_hierarchy.specs.Bounds.{IsRoomFor};
 
 use crate::bounds::{first_wrong, plain_sums};
-use crate::near::grid;
+use crate::near::{grid, path};
 use crate::random::{number_to, random_network, times_of_all_kinds};
 use ea_hierarchy::{Bounds, Prepared, Unprepared, elimination_order, is_order};
 use ea_road::{Arc, Network};
@@ -306,6 +306,71 @@ fn left_out_of_clique(alloc: Global, nodes: u32) -> Result<Option<u64>, Unprepar
         return Ok(None);
     }
     Ok(Some(once))
+}
+
+/// Whether the upward arcs of a preparation serve a network; none if it isn't made, or has too many classes.
+fn serves(
+    alloc: Global,
+    prepared: &Prepared,
+    network: Option<Network>,
+    times: &Timetables,
+) -> Result<Option<bool>, AllocError> {
+    let Some(network) = network else {
+        return Ok(None);
+    };
+    if network.top_class() as usize > times.classes() {
+        return Ok(None);
+    }
+    Ok(Some(prepared.like(alloc, &network, times)?.is_some()))
+}
+
+/// A preparation of a path of 20 nodes; none if it isn't made.
+fn prepared_path(alloc: Global, times: &Timetables) -> Result<Option<Prepared>, Unprepared> {
+    let Some(network) = path(alloc, 20, 3, 0)? else {
+        return Ok(None);
+    };
+    if network.top_class() as usize > times.classes() {
+        return Ok(None);
+    }
+    let order = in_turn(alloc, 20)?;
+    Ok(Some(Prepared::with_order(alloc, &network, times, &order)?))
+}
+
+/// Whether the preparation of a path serves another shape of 20 nodes, or else a path of this many nodes whose arcs take longer; none if one of
+/// them isn't made.
+fn serve(alloc: Global, shape: Option<Shape>, nodes: u32) -> Result<Option<bool>, Unprepared> {
+    let Some(times) = times_of_all_kinds(alloc)? else {
+        return Ok(None);
+    };
+    let Some(prepared) = prepared_path(alloc, &times)? else {
+        return Ok(None);
+    };
+    let network = match shape {
+        Some(shape) => network_of_shape(alloc, shape, 20)?,
+        None => path(alloc, nodes, 7, 0)?,
+    };
+    Ok(serves(alloc, &prepared, network, &times)?)
+}
+
+#[test]
+fn upward_arcs_serve_other_weights_of_the_same_arcs(rt: HostRuntime) -> Result<(), Fail> {
+    let found = serve(rt.alloc(), None, 20).map_err(|_| "prepared")?;
+    assert_eq!(rt; found, Some(true));
+    Ok(())
+}
+
+#[test]
+fn upward_arcs_serve_no_more_arcs(rt: HostRuntime) -> Result<(), Fail> {
+    let found = serve(rt.alloc(), Some(Shape::Clique), 20).map_err(|_| "prepared")?;
+    assert_eq!(rt; found, Some(false));
+    Ok(())
+}
+
+#[test]
+fn upward_arcs_serve_no_more_nodes(rt: HostRuntime) -> Result<(), Fail> {
+    let found = serve(rt.alloc(), None, 21).map_err(|_| "prepared")?;
+    assert_eq!(rt; found, Some(false));
+    Ok(())
 }
 
 #[test]

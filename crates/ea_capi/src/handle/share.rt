@@ -124,4 +124,14 @@ impl Share {
             None => None,
         }
     }
+
+    /// One more share of its layout, if it has one.
+    pub fn layout_again(&self) -> Result<Option<Arc<Layout, Global>>, AllocError>
+        ensures { IfOk result (λ it. option_map arc_value it ≡ self.now.layout) }
+    {
+        match &self.layout {
+            Some(layout) => Ok(Some(Arc::try_clone(layout)?)),
+            None => Ok(None),
+        }
+    }
 }

@@ -75,6 +75,26 @@ fn road_by_order(
     Ok(boxed(alloc, terrain, layout)?)
 }
 
+/// A prepared layout of a road like another one.
+fn layout_like(alloc: Global, terrain: &Terrain, like: &Layout) -> Result<Layout, Unprepared>
+    ensures laid { IfOk result (IsLaidFor terrain.now.road) }
+    ensures is_there { IfOk result (λ layout. IsTrue (is_some layout.prepared)) }
+{
+    Layout::prepare_like(alloc, &terrain.road.network, &terrain.road.times, like)
+}
+
+/// A road with a preparation like that of a layout, in a new box.
+fn road_like(
+    alloc: Global,
+    terrain: &Arc<Terrain, Global>,
+    like: &Layout,
+) -> Result<Box<Content, Global>, Unprepared>
+    ensures made { IfOk result (λ it. IsRoadPrepared (arc_value terrain.now).road (Some it.value)) }
+{
+    let layout = layout_like(alloc, terrain, like)?;
+    Ok(boxed(alloc, terrain, layout)?)
+}
+
 /// The road of a content with a preparation, or the refusal's number.
 fn prepared_of(alloc: Global, content: &Content) -> Result<Box<Content, Global>, u32>
     ensures made { IfOk result (λ it. IsPreparedOf (road_in (Some content.now)) it.value) }
@@ -109,46 +129,34 @@ fn prepared_by(alloc: Global, content: &Content, order: &[u32]) -> Result<Box<Co
     }
 }
 
-/// A copy of a list.
-fn copy_of(alloc: Global, list: &[u32]) -> Result<Vec<u32>, AllocError> {
-    let mut copy = Vec::with_capacity(alloc, list.len())?;
-    copy.extend_from_slice(list)?;
-    Ok(copy)
-}
-
-/// The order of a prepared road, or the refusal's number: it isn't prepared, or memory was refused.
-fn order_of(alloc: Global, content: &Content) -> Result<Vec<u32>, u32>
+/// One more share of the layout of a prepared road, or the refusal's number: it isn't prepared, or memory was refused.
+fn pattern_of(content: &Content) -> Result<Arc<Layout, Global>, u32>
     ensures { IfErr result IsUnprepared }
 {
     let Content::Road(share) = content else {
         return Err(NO_ORDER);
     };
-    let Some(layout) = share.layout() else {
-        return Err(NO_ORDER);
-    };
-    if layout.prepared.is_none() {
-        return Err(NO_ORDER);
-    }
-    match copy_of(alloc, &layout.nodes) {
-        Ok(order) => Ok(order),
+    match share.layout_again() {
+        Ok(Some(layout)) => Ok(layout),
+        Ok(None) => Err(NO_ORDER),
         Err(_) => Err(OUT_OF_MEMORY),
     }
 }
 
-/// The order of the preparation that a handle holds.
-fn order_in(alloc: Global, like: &mut Handle) -> Result<Vec<u32>, u32>
+/// One more share of the layout of the road that a handle holds.
+fn pattern_in(alloc: Global, like: &mut Handle) -> Result<Arc<Layout, Global>, u32>
     ensures same { like.new.value ≡ like.old.value }
     ensures refused { IfErr result IsUnprepared }
 {
     let Some(content) = like.take(alloc) else {
         return Err(NO_ORDER);
     };
-    let order = order_of(alloc, &content);
+    let layout = pattern_of(&content);
     like.put(content);
-    order
+    layout
 }
 
-/// The road of a content with a preparation over the order of another, or the refusal's number.
+/// The road of a content with a preparation like that of another, or the refusal's number.
 fn prepared_like(
     alloc: Global,
     content: &Content,
@@ -162,8 +170,8 @@ fn prepared_like(
     let Content::Road(share) = content else {
         return Err(NO_ROAD);
     };
-    match order_in(alloc, like) {
-        Ok(order) => match road_by_order(alloc, share.terrain(), &order) {
+    match pattern_in(alloc, like) {
+        Ok(layout) => match road_like(alloc, share.terrain(), &layout) {
             Ok(found) => Ok(found),
             Err(why) => Err(number_of(why)),
         },
@@ -231,8 +239,9 @@ pub extern "C" fn earliest_road_prepared_by(
     }
 }
 
-/// Prepares a road over the order of another one that is prepared, as one with other weights or timetables on the same arcs: no order is
-/// looked for, which takes most of the time.
+/// Prepares a road like another one that is prepared, as one with other weights or timetables on the same arcs: no order is looked for, and the
+/// upward arcs stay as they are, so it takes a part of the time. If an arc was added that they don't join, new ones are made over the same
+/// order.
 ///
 /// The handle `prepared` is as after `earliest_road_prepared`. Returns 27 if `like` holds no preparation, or one of another number of nodes.
 /// If the call doesn't return 0, the handle is unchanged.

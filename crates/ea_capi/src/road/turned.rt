@@ -29,7 +29,7 @@ fn turned_layout(
         return Ok(Some(Layout::over(alloc, &turned.network, &layout.nodes)?));
     }
     let times = Turned::of(&turned.terrain.road.times);
-    match Layout::prepare_by(alloc, &turned.network, &times, &layout.nodes) {
+    match Layout::prepare_like(alloc, &turned.network, &times, layout) {
         Ok(layout) => Ok(Some(layout)),
         Err(Unprepared::OutOfMemory) => Err(AllocError),
         Err(Unprepared::NotWorth | Unprepared::NoOrder) => Ok(None),
@@ -67,7 +67,7 @@ fn turned_of(alloc: Global, content: &Content) -> Result<Box<Content, Global>, u
 }
 
 /// Turns a road round, for searches for latest departures: takes as much memory as its network once more. A road that is laid out or
-/// prepared is so turned round, too, over the same order.
+/// prepared is so turned round, too, over the same order and upward arcs.
 ///
 /// The handle `turned` holds it afterwards, with a share of the road, so the road may be freed before it; its earlier content is freed.
 /// If the call doesn't return 0, the handle is unchanged.

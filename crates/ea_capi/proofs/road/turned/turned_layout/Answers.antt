@@ -11,8 +11,8 @@ use Rattle.ea_capi.specs.declared.handle.terrain.Terrain.{Terrain}
 use Rattle.ea_capi.proofs.Stopping.{turned_top}
 use Rattle.ea_capi.proofs.road.turned.turned_layout.Goals as goal
 
-pub prepare_by-requires : goal.prepare_by-requires
-prepare_by-requires c =
+pub prepare_like-requires : goal.prepare_like-requires
+prepare_like-requires c =
     let turned = c.args.turned.now in
     let road = (arc_value turned.terrain).road in
     let same : c.of-times.result.times.now ≡ road.times = c.of-times.ensures ∙ ap (λ (it : Terrain). it.road.times) c.deref-2.ensures in
