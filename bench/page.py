@@ -63,8 +63,10 @@ PREPARED = """## Pairs over a prepared road
 300 pairs each, departing at 0 on plain weights: by Dijkstra rank, the target being the 2^r-th node that a search settles, and far ones at
 random. Ours is timed by a proved program (`bench/prepared/program`), on the road prepared and as it is; beside it is a program in plain C++ with
 the same order and bounds (`bench/prepared/hand.cpp`), which are asked for from the first node on and have no end. Both number the network by
-their order. The far pairs are searched at seven in the morning with traffic patterns, too, by the Python package. Microseconds a pair, the least,
-middle and greatest of three rounds or more; the preparation in milliseconds.
+their order. A binary heap by hand stops at the target, and searches in the numbers of the file. The far pairs are searched at seven in the
+morning with traffic patterns, too, by the Python package. 10,000 far pairs are whole runs of `pairs`, less the run of one. Microseconds a pair,
+the least, middle and greatest of the rounds; preparations in milliseconds. That for other weights of the same arcs keeps the upward arcs
+(`prepare(like=road)` from Python); memory is what `pairs` takes more at its peak with a preparation.
 """
 
 ASKED = """## Asked nodes
@@ -259,19 +261,20 @@ def prepared_on(network, rows):
     """A table of a network's pairs, and a picture."""
     found = {(row["pairs"], row["program"]): row for row in rows}
     names = list(dict.fromkeys(row["pairs"] for row in rows))
-    out = [f"**{network}, {int(rows[0]['nodes']):,} nodes**", "", "| pairs | in plain C++ | earliest | beside C++ | unprepared | as quick |", "|" + "---|" * 6]
+    out = [f"**{network}, {int(rows[0]['nodes']):,} nodes**", "", "| pairs | in plain C++ | earliest | beside C++ | unprepared | as quick | by hand | as quick |", "|" + "---|" * 8]
     lines = {}
     for name in names:
-        scale = 1 / 1000 if name == "preparation" else 1
+        scale = 1 / 1000 if name in (prepared_turns.PREPARED, prepared_turns.AGAIN) else 1
         cells, middles = [name], {}
-        for program in (prepared_turns.CPP, prepared_turns.LED, prepared_turns.PLAIN):
+        for program in (prepared_turns.CPP, prepared_turns.LED, prepared_turns.PLAIN, prepared_turns.HEAP):
             row = found.get((name, program))
             middles[program] = float(row["middle"]) if row else None
             cells.append(" / ".join(f"{float(row[it]) * scale:.4g}" for it in ("least", "middle", "greatest")) if row else "")
             if row and name.startswith("2^"):
                 lines.setdefault(program, []).append((2 ** int(name[2:]), middles[program]))
-        base, ours, plain = middles.values()
-        cells[3:] = [f"{ours / base:.2f}" if base else "", cells[3], f"{plain / ours:.1f} times" if plain else ""]
+        base, ours, plain, heap = middles.values()
+        times = [f"{it / ours:.1f} times" if it else "" for it in (plain, heap)]
+        cells[3:] = [f"{ours / base:.2f}" if base else "", cells[3], times[0], cells[4], times[1]]
         out.append("| " + " | ".join(cells) + " |")
     picture = "pairs-by-rank" if network == prepared_turns.GRID else f"pairs-by-rank-{network}"
     drawn(picture, f"Pairs by Dijkstra rank, {network}, microseconds each", "rank of the target", "microseconds", list(lines.items()))

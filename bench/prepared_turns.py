@@ -5,8 +5,10 @@
 Without a graph it makes a road-like grid of 10^6 nodes, whose cuts are larger than those of any real network, and a country of towns and
 motorways. Pairs are by Dijkstra rank, the target being the 2^r-th node that a search from the source settles, and far ones at random. Both
 programs are built, run in turns on the same files, and have to reach all targets at the same times; ours searches without the preparation,
-too. The far ones are also searched by the Python package with traffic patterns, when most roads are slow. It prints the least, the middle and
-the greatest of the rounds, in microseconds a pair. `make bench` writes the same as tables and pictures of the page.
+too, and a binary heap in plain Rust stops at the target. The far ones are also searched by the Python package with traffic patterns, when most roads
+are slow. It prints the least, the middle and the greatest of the rounds, in microseconds a pair; then those of a preparation and of one for
+other weights of the same arcs, in microseconds, of many far pairs by one thread and by four, and of the memory that a preparation takes, in
+bytes a node. `make bench` writes the same as tables and pictures of the page.
 """
 import os
 import random
@@ -23,7 +25,9 @@ import workspace
 
 FIELDS = ("network", "nodes", "pairs", "program", "least", "middle", "greatest")
 RANKS, FAR, PEAK, COUNT, TURNS = (9, 10, 11, 12, 13, 14, 16, 18), "far", "far, in the morning", 300, 2
-CPP, LED, PLAIN = "in plain C++", "earliest", "earliest, unprepared"
+MANY, MANY_THREADS = 10_000, (1, 4)
+PREPARED, AGAIN, MEMORY = "preparation", "for other weights", "memory, bytes a node"
+CPP, LED, PLAIN, HEAP = "in plain C++", "earliest", "earliest, unprepared", programs.BASE
 GRID, COUNTRY = "road-like grid", "country"
 
 
@@ -36,11 +40,17 @@ def pairs_of(hand, graph, scratch):
         if 2**rank <= nodes:
             files[f"2^{rank}"] = os.path.join(scratch, f"rank{rank}.p2p")
             subprocess.run([hand, "make_pairs", graph, files[f"2^{rank}"], str(COUNT), str(2**rank)], check=True)
-    files[FAR], words = os.path.join(scratch, "far.p2p"), random.Random(7)
-    with open(files[FAR], "w", encoding="ascii") as file:
-        file.write(f"p aux sp p2p {COUNT}\n")
-        file.writelines(f"q {words.randint(1, nodes)} {words.randint(1, nodes)}\n" for _ in range(COUNT))
+    files[FAR] = far_pairs(nodes, COUNT, scratch)
     return nodes, files
+
+
+def far_pairs(nodes, count, scratch):
+    """A file of pairs at random."""
+    name, words = os.path.join(scratch, f"far{count}.p2p"), random.Random(7)
+    with open(name, "w", encoding="ascii") as file:
+        file.write(f"p aux sp p2p {count}\n")
+        file.writelines(f"q {words.randint(1, nodes)} {words.randint(1, nodes)}\n" for _ in range(count))
+    return name
 
 
 def timed(program, graph, pairs):
@@ -54,16 +64,44 @@ def timed(program, graph, pairs):
     return int(prepared[1]), led, plain, {int(total) for *_, total in found}
 
 
+def by_heap(hand, graph, pairs, tp="-", departure=0):
+    """The microseconds a pair of a binary heap in plain Rust that stops at the target."""
+    said = subprocess.run([hand, "pairs", graph, pairs, tp, str(departure), os.devnull], capture_output=True, text=True, check=True).stdout
+    with open(pairs, encoding="ascii") as file:
+        return int(re.search(r"solve_us (\d+)", said)[1]) / sum(line.startswith("q") for line in file)
+
+
+def took(measure, words):
+    """The seconds and the peak of memory, in bytes, of a run of our program, by `measure.rs`."""
+    said = subprocess.run([measure, os.devnull, programs.EARLIEST, *words], capture_output=True, text=True, check=True).stdout
+    micros, kib, status = map(int, said.split()[:3])
+    if status:
+        sys.exit(f"earliest {' '.join(words)}: status {status}")
+    return micros / 1e6, kib * 1024
+
+
+def by_threads(measure, nodes, graph, scratch):
+    """The microseconds a pair of many far pairs by one thread and by several, and the bytes a node that a preparation takes more at the peak."""
+    many, few, rows = far_pairs(nodes, MANY, scratch), far_pairs(nodes, 1, scratch), {}
+    for count in MANY_THREADS:
+        words = ["--prepare", "yes", "--at-once", str(count)]
+        pairs = [(took(measure, ["pairs", graph, many, *words])[0] - took(measure, ["pairs", graph, few, *words])[0]) * 1e6 / MANY for _ in range(3)]
+        rows[f"{MANY:,} far, threads: {count}"] = pairs
+    peaks = [[took(measure, ["pairs", graph, few, "--prepare", it, "--at-once", "1"])[1] for it in ("yes", "no")] for _ in range(3)]
+    return {**rows, MEMORY: [(led - plain) / nodes for led, plain in peaks]}
+
+
 def measured(cpp, ours, hand, name_of, graph, scratch):
-    """A row of times for each file of pairs and program, and one for the preparations, of a network of this name."""
+    """A row of times for each file of pairs and program, and those of the preparations, of a network of this name."""
     nodes, files = pairs_of(hand, graph, scratch)
     rows, prepared = [], {CPP: [], LED: []}
     for name, pairs in files.items():
-        times, sums = {CPP: [], LED: [], PLAIN: []}, set()
+        times, sums = {CPP: [], LED: [], PLAIN: [], HEAP: []}, set()
         for _ in range(TURNS):
+            times[HEAP].append(by_heap(hand, graph, pairs))
             for program, it in ((CPP, cpp), (LED, ours)):
-                took, led, plain, totals = timed(it, graph, pairs)
-                prepared[program].append(took)
+                micros, led, plain, totals = timed(it, graph, pairs)
+                prepared[program].append(micros)
                 times[program] += led
                 times[PLAIN] += plain
                 sums |= totals
@@ -71,12 +109,32 @@ def measured(cpp, ours, hand, name_of, graph, scratch):
             sys.exit(f"the arrivals of {name} differ: their sums are {sorted(sums)}")
         rows += [(name_of, nodes, name, program, *spread(some)) for program, some in times.items()]
         print(f"prepared: {name_of}, pairs {name}, done", flush=True)
-    rows += [(name_of, nodes, PEAK, program, *spread(some)) for program, some in in_the_morning(graph, files[FAR]).items()]
-    return rows + [(name_of, nodes, "preparation", program, *spread(some)) for program, some in prepared.items()]
+    rows += [(name_of, nodes, PEAK, program, *spread(some)) for program, some in in_the_morning(hand, graph, files[FAR]).items()]
+    rows += [(name_of, nodes, PREPARED, program, *spread(some)) for program, some in prepared.items()]
+    found = {AGAIN: for_other_weights(graph), **by_threads(os.path.join(os.path.dirname(hand), "measure"), nodes, graph, scratch)}
+    return rows + [(name_of, nodes, name, LED, *spread(some)) for name, some in found.items() if some]
 
 
-def in_the_morning(graph, pairs):
-    """The microseconds a pair of some rounds by the Python package, with traffic patterns that begin when most roads are slow; none without it."""
+def for_other_weights(graph):
+    """The microseconds of preparations by the Python package for other weights of the same arcs; none without it."""
+    if not python_search.is_there():
+        return []
+    sys.path.insert(0, python_search.PACKAGE)
+    import earliest
+
+    first, some = earliest.Road.read(graph).prepare(), []
+    with open(graph, encoding="ascii") as file:
+        text = re.sub(r"(?m)^(a \d+ \d+ )(\d+)$", lambda it: f"{it[1]}{2 * int(it[2]) + 1}", file.read()).encode()
+    for _ in range(3):
+        road, begun = earliest.Road(text), time.perf_counter()
+        road.prepare(like=first)
+        some.append((time.perf_counter() - begun) * 1e6)
+    return some
+
+
+def in_the_morning(hand, graph, pairs):
+    """The microseconds a pair of some rounds by the Python package and by a heap, with traffic patterns that begin when most roads are slow; none
+    without the package."""
     patterns = graph.removesuffix(".gr") + ".patterns.tp"
     if not python_search.is_there() or not os.path.exists(patterns):
         return {}
@@ -96,7 +154,7 @@ def in_the_morning(graph, pairs):
             some.append((time.perf_counter() - begun) * 1e6 / len(asked))
     if len(sums) != 1:
         sys.exit(f"the arrivals of {pairs} in the morning differ: their sums are {sorted(sums)}")
-    return times
+    return {**times, HEAP: [by_heap(hand, graph, pairs, patterns, programs.DEPART)]}
 
 
 def country(scratch, nodes):
