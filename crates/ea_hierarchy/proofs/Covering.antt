@@ -6,10 +6,9 @@ use Rattle.ea_road.specs.Roads.{IsArc, Roads}
 use Rattle.ea_road.specs.declared.arc.Arc.{Arc}
 use Rattle.ea_road.proofs.Arcs.{arc_inside}
 use Rattle.ea_travel_times.specs.Lows.{IsLowerBound}
-use Rattle.ea_hierarchy.specs.Growth.{AreJoined, IsJoined}
-use Rattle.ea_hierarchy.specs.Hierarchies.{IsCovered, Joins, Lowers, rank_of}
+use Rattle.ea_hierarchy.specs.Growth.{IsJoined}
+use Rattle.ea_hierarchy.specs.Hierarchies.{IsCovered, Lowers}
 use Rattle.ea_hierarchy.specs.Preparations.{IsLowCovered}
-use Rattle.ea_hierarchy.specs.Waiting.{AreListed, Waits}
 
 same_arc : (a b : Arc) → ◌≡◌ {A = Option Arc} (Some a) (Some b) → a ≡ b
 same_arc a b is = cc
@@ -52,10 +51,3 @@ joined_more roads ranks firsts heads to here found joined before number arc belo
 
 pub number_to : (roads : Roads) (number : ℕ) (arc : Arc) → IsArc roads number arc → number ≤ length roads.arcs
 number_to roads number arc is = let inside = arc_inside roads.arcs (number - 1) arc is.found in omega (arith, inside)
-
--- what waited is joined
-pub joined_of : (roads : Roads) (ranks firsts heads : List ℕ) (lists : List (List ℕ)) → AreListed roads ranks lists → ((low high : ℕ) → Waits lists low high → (place : ℕ) × Joins firsts heads low high place) → AreJoined roads ranks firsts heads
-joined_of roads ranks firsts heads lists listed kept number arc is = record {
-  up = λ rises. kept (rank_of ranks arc.tail) (rank_of ranks arc.head) ((listed number arc is).up rises);
-  down = λ falls. kept (rank_of ranks arc.head) (rank_of ranks arc.tail) ((listed number arc is).down falls);
-}

@@ -3,7 +3,7 @@ use Rattle.std.proofs.Common.{◌≡◌, ℕ, zero, suc, ◌+◌, ◌-◌, ◌<�
 use Rattle.std.specs.Prelude.{slice_index}
 use Rattle.std.proofs.lemmas.Bool.Decides.{leb_tells}
 use Rattle.std.proofs.lemmas.List.{get_or_default}
-use Rattle.ea_hierarchy.specs.Hierarchies.{IsFrom, IsUpward}
+use Rattle.ea_hierarchy.specs.Hierarchies.{IsFrom, IsLowest, IsUpward}
 
 module _ (nodes : ℕ) (firsts heads : List ℕ) (are : IsUpward nodes firsts heads) where
   -- the lower of two heads comes first
@@ -37,6 +37,12 @@ module _ (nodes : ℕ) (firsts heads : List ℕ) (are : IsUpward nodes firsts he
       let rise = firsts_rise (low + 1) (high - (low + 1)) (omega (arith, order, below)) in
       let same : low + 1 + (high - (low + 1)) ≡ high = omega (arith, order) in
       omega (arith, rise, ap (slice_index firsts) same)
+
+  -- the lowest head of a rank is a higher rank
+  pub lowest_up : (rank head : ℕ) → rank < nodes → IsLowest firsts heads rank head → (rank < head) × (head < nodes)
+  lowest_up rank head below lowest =
+      let up = are.upward rank (slice_index firsts rank) below (record { from = omega arith; before = lowest.some }) in
+      (omega (arith, up.0, lowest.is), omega (arith, up.1, lowest.is))
 
   pub inside : (rank place : ℕ) → rank < nodes → IsFrom firsts rank place → place < length heads
   inside rank place below from = omega (arith, from.before, are.within (rank + 1) (omega (arith, below)))

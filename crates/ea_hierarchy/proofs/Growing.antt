@@ -1,29 +1,32 @@
 -- The upward arcs of one more rank; and when all are made, any two heads of a rank are joined.
-use Rattle.std.proofs.Common.{◌≡◌, ℕ, zero, suc, ◌+◌, ◌<◌, ◌≤◌, ◌⊎◌, inl, inr, refl, ap, sym, subst, ◌∙◌, arith, leb, List, [], ◌∷◌, ◌++◌, length, length-append, true, false}
-use Rattle.std.specs.Prelude.{slice_index}
-use Rattle.std.proofs.Math.ListN.{get_or-append}
+use Rattle.std.proofs.Common.{◌≡◌, ℕ, zero, suc, ◌+◌, ◌-◌, ◌<◌, ◌≤◌, ◌⊎◌, inl, inr, refl, ap, sym, subst, ◌∙◌, arith, leb, List, [], ◌∷◌, ◌++◌, length, true, false}
+use Rattle.std.specs.Prelude.{All, Contains, slice_index}
+use Rattle.std.proofs.lemmas.Bool.{cases_eq}
 use Rattle.std.proofs.lemmas.Bool.Decides.{leb_tells}
-use Rattle.std.proofs.lemmas.List.{get_or_push}
-use Rattle.ea_hierarchy.specs.Growth.{Has, IsGrown, IsMade}
-use Rattle.ea_hierarchy.specs.Hierarchies.{IsFrom, IsUpward, Joins}
-use Rattle.ea_hierarchy.specs.Waiting.{Appends, AreAbove, Frees, HandsOn, Sorts, Waits, list_at}
+use Rattle.std.proofs.lemmas.List.{get_or_append_left, get_or_default, get_or_push, length-map, length_push}
+use Rattle.ea_road.proofs.Arcs.{arc_inside}
+use Rattle.ea_road.specs.Roads.{FitsNodes, IsNetwork, IsNode, Roads}
+use Rattle.ea_hierarchy.proofs.Listing.{map_at}
+use Rattle.ea_hierarchy.specs.Growth.{AreAbove, AreJoined, AreMade, IsOverArc, IsOverChild}
+use Rattle.ea_hierarchy.specs.Hierarchies.{AreLowestHeads, AreRanks, HasArc, IsFrom, IsLowest, IsParent, IsUpward, Joins, rank_of}
+use Rattle.ea_hierarchy.specs.Waiting.{Appends, higher_end, higher_ends, lower_end, lower_ends}
+use Rattle.ea_hierarchy.specs.declared.numbers.TheConstants.{NONE}
 
--- one more rank: sorted, appended, handed on
-module _ (nodes made : ℕ) (begin lists ordered after : List (List ℕ)) (firsts heads grown : List ℕ)
-    (is : IsGrown nodes made begin lists firsts heads)
+-- one more rank: what was found is appended
+module _ (nodes made : ℕ) (firsts heads found grown : List ℕ)
+    (is : AreAbove nodes made firsts heads)
     (below : made < nodes)
-    (sorts : Sorts lists ordered made)
-    (appends : Appends (list_at ordered made) heads grown)
-    (hands : HandsOn ordered after grown (length heads))
+    (low : All (λ head. head < nodes) found)
+    (appends : Appends found made heads grown)
   where
     abbrev more : List ℕ
     more = firsts ++ length grown ∷ []
 
     more_count : length more ≡ made + 1 + 1
-    more_count = grind (arith, length-append {A = ℕ}, is.count)
+    more_count = omega (arith, length_push firsts (length grown), is.count)
 
     first_old : (rank : ℕ) → rank ≤ made → slice_index more rank ≡ slice_index firsts rank
-    first_old rank to = get_or-append firsts (length grown ∷ []) 0 rank (omega (arith, is.count, to))
+    first_old rank to = get_or_append_left firsts (length grown ∷ []) 0 rank (omega (arith, is.count, to))
 
     first_new : slice_index more (made + 1) ≡ length grown
     first_new = get_or_push firsts (length grown) 0 (made + 1) is.count
@@ -41,11 +44,8 @@ module _ (nodes made : ℕ) (begin lists ordered after : List (List ℕ)) (first
       before = omega (arith, from.before, first_old (rank + 1) (omega (arith, early)));
     }
 
-    within_heads : (rank place : ℕ) → rank < made → IsFrom firsts rank place → place < length heads
-    within_heads rank place early from = omega (arith, from.before, is.within (rank + 1) (omega (arith, early)))
-
     old_head : (rank place : ℕ) → rank < made → IsFrom firsts rank place → slice_index grown place ≡ slice_index heads place
-    old_head rank place early from = appends.old place (within_heads rank place early from)
+    old_head rank place early from = appends.old place (omega (arith, from.before, is.within (rank + 1) (omega (arith, early))))
 
     record IsNew (rank place : ℕ) : Type 0 where
       is_made : rank ≡ made
@@ -59,58 +59,33 @@ module _ (nodes made : ℕ) (begin lists ordered after : List (List ℕ)) (first
         let end : slice_index more (rank + 1) ≡ length grown = ap (λ n. slice_index more (n + 1)) same ∙ first_new in
         record { is_made = same; from = omega (arith, from.from, at); to = omega (arith, from.before, end) }
 
-    new_is_from : (place : ℕ) → length heads ≤ place → place < length grown → IsFrom more made place
-    new_is_from place from to = record {
-      from = omega (arith, from, first_old made (omega arith), is.last);
-      before = omega (arith, to, first_new);
-    }
+    new_below : (place : ℕ) → length heads ≤ place → place < length grown → slice_index grown place < nodes
+    new_below place from to =
+        let one = appends.of_list place from to in
+        let is_low = low one.0 0 one.1 in
+        omega (arith, one.2, is_low)
 
-    -- what is new waited at the rank
-    new_waits : (place : ℕ) → length heads ≤ place → place < length grown → Waits lists made (slice_index grown place)
-    new_waits place from to =
-        let found = appends.of_list place from to in
-        sorts.came made (slice_index grown place) (record { place = found.0; inside = found.1; is = found.2 })
+    -- what was found above the rank is one of its heads
+    new_arc : (high : ℕ) → made < high → Contains found high → HasArc more grown made high
+    new_arc high rises in_it =
+        let same : slice_index found in_it.0 ≡ high = get_or_default found in_it.0 0 high in_it.1 ∙ in_it.2 in
+        let there = appends.all in_it.0 in_it.1 (omega (arith, rises, same)) in (
+          there.0,
+          record {
+            is_from = record {
+              from = omega (arith, there.1, first_old made (omega arith), is.last);
+              before = omega (arith, there.2, first_new);
+            };
+            head = there.3 ∙ same;
+          },
+        )
 
-    -- what a rank has it still has
-    still_has : (low high : ℕ) → Has made lists firsts heads low high → Has (made + 1) after more grown low high
-    still_has low high has = record {
-      joined = λ early. joined early (leb_tells made low);
-      waits = λ late. hands.kept low high (sorts.kept low high (has.waits (omega (arith, late))));
-    }
-      where
-        joined : low < made + 1 → ((leb made low ≡ true) × (made ≤ low)) ⊎ ((leb made low ≡ false) × (low < made)) → (place : ℕ) × Joins more grown low high place
-        joined early (inl late) =
-            let same : low ≡ made = omega (arith, late.1, early) in
-            let waits = sorts.kept low high (has.waits late.1) in
-            let there : Waits ordered made high = subst (λ n. Waits ordered n high) same waits in
-            let found = appends.all there.place there.inside in (
-              found.0,
-              record {
-                is_from = subst (λ n. IsFrom more n found.0) (sym same) (new_is_from found.0 found.1 found.2);
-                head = found.3 ∙ there.is;
-              },
-            )
-        joined early (inr before) =
-            let found = has.joined before.1 in (
-              found.0,
-              record {
-                is_from = still_place low found.0 before.1 found.1.is_from;
-                head = old_head low found.0 before.1 found.1.is_from ∙ found.1.head;
-              },
-            )
+    -- the arcs of a rank that was made before
+    old_arc : (low high : ℕ) → low < made → HasArc firsts heads low high → HasArc more grown low high
+    old_arc low high early arc = (arc.0, record { is_from = still_place low arc.0 early arc.1.is_from; head = old_head low arc.0 early arc.1.is_from ∙ arc.1.head })
 
-    above_still : AreAbove nodes after
-    above_still low high waits = elim (hands.came low high waits) [
-      | inl old ↦ is.above low high (sorts.came low high old)
-      | inr new ↦
-          let up = appends.ascend (length heads) new.0 (omega arith) new.1 new.2 in
-          let high_is = is.above made (slice_index grown new.0) (new_waits new.0 (omega (arith, new.1)) new.2) in
-          (omega (arith, new.3, new.4, up), omega (arith, new.4, high_is.1))
-    ]
-
-    pub grown_more : IsGrown nodes (made + 1) begin after (firsts ++ length grown ∷ []) grown
-    grown_more = record {
-      ranks = hands.count ∙ sorts.count ∙ is.ranks;
+    pub above_more : AreAbove nodes (made + 1) (firsts ++ length grown ∷ []) grown
+    above_more = record {
       count = more_count;
       last = first_new;
       within = λ rank to. elim (leb_tells rank made) [
@@ -123,12 +98,10 @@ module _ (nodes made : ℕ) (begin lists ordered after : List (List ℕ)) (first
             omega (arith, ap (slice_index more) same, ap (λ n. slice_index more (n + 1)) same, first_old made (omega arith), first_new, is.last, appends.long)
         | inr before ↦ omega (arith, first_old rank (omega (arith, before.1)), first_old (rank + 1) (omega (arith, before.1)), is.rises rank before.1)
       ];
-      above = above_still;
       upward = λ rank place early from. elim (leb_tells made rank) [
         | inl late ↦
             let new = new_place rank place late.1 early from in
-            let up = is.above made (slice_index grown place) (new_waits place new.from new.to) in
-            (omega (arith, new.is_made, up.0), up.1)
+            (omega (arith, new.is_made, appends.above place new.from new.to), new_below place new.from new.to)
         | inr before ↦
             let old = old_place rank place before.1 from in
             let up = is.upward rank place before.1 old in
@@ -144,50 +117,125 @@ module _ (nodes made : ℕ) (begin lists ordered after : List (List ℕ)) (first
             let next = old_place rank later before.1 from_later in
             omega (arith, old_head rank place before.1 old, old_head rank later before.1 next, is.ascend rank place later before.1 old next order)
       ];
-      handed = handed;
-      kept = λ low high waits. still_has low high (is.kept low high waits);
     }
-      where
-        handed : (rank place : ℕ) → rank < made + 1 → IsFrom more rank place → slice_index more rank < place → Has (made + 1) after more grown (slice_index grown (slice_index more rank)) (slice_index grown place)
-        handed rank place early from after_first = elim (leb_tells made rank) [
+
+    -- the lowest heads
+    lowest_still : (rank head : ℕ) → rank < made → IsLowest firsts heads rank head → IsLowest more grown rank head
+    lowest_still rank head early lowest =
+        let at = first_old rank (omega (arith, early)) in
+        let end = first_old (rank + 1) (omega (arith, early)) in
+        let from : IsFrom firsts rank (slice_index firsts rank) = record { from = omega arith; before = lowest.some } in
+        record { some = omega (arith, at, end, lowest.some); is = ap (slice_index grown) at ∙ old_head rank (slice_index firsts rank) early from ∙ lowest.is }
+
+    lowest_before : (rank head : ℕ) → rank < made → IsLowest more grown rank head → IsLowest firsts heads rank head
+    lowest_before rank head early lowest =
+        let at = first_old rank (omega (arith, early)) in
+        let end = first_old (rank + 1) (omega (arith, early)) in
+        let some : slice_index firsts rank < slice_index firsts (rank + 1) = omega (arith, at, end, lowest.some) in
+        let from : IsFrom firsts rank (slice_index firsts rank) = record { from = omega arith; before = some } in
+        record { some = some; is = sym (old_head rank (slice_index firsts rank) early from) ∙ ap (slice_index grown) (sym at) ∙ lowest.is }
+
+    module _ (parents : List ℕ) (are : AreLowestHeads firsts heads parents) where
+      many : length parents ≡ made
+      many = omega (arith, are.count, is.count)
+
+      parent_still : (rank : ℕ) → rank < made → IsParent more grown rank (slice_index parents rank)
+      parent_still rank early =
+          let each = are.each rank (omega (arith, early, is.count)) in
+          record {
+            lowest = λ some. lowest_still rank (slice_index parents rank) early (each.lowest some);
+            none = λ none head lowest. each.none none head (lowest_before rank head early lowest);
+          }
+
+      pub parents_more : (parent : ℕ) → IsParent more grown made parent → AreLowestHeads (firsts ++ length grown ∷ []) grown (parents ++ parent ∷ [])
+      parents_more parent new = record {
+        count = omega (arith, length_push parents parent, many, more_count);
+        each = λ rank inside. elim (leb_tells made rank) [
           | inl late ↦
-              let new = new_place rank place late.1 early from in
-              let at : slice_index more rank ≡ length heads = ap (slice_index more) new.is_made ∙ first_old made (omega arith) ∙ is.last in
-              let up = is.above made (slice_index grown (length heads)) (new_waits (length heads) (omega arith) (omega (arith, after_first, at, new.to))) in
-              let there = hands.there place (omega (arith, after_first, at)) new.to in
-              let has : Has (made + 1) after more grown (slice_index grown (length heads)) (slice_index grown place) = record {
-                joined = λ early. absurd (omega (arith, early, up.0));
-                waits = λ _. there;
-              } in
-              subst (λ n. Has (made + 1) after more grown (slice_index grown n) (slice_index grown place)) (sym at) has
-          | inr before ↦
-              let old = old_place rank place before.1 from in
-              let at : slice_index more rank ≡ slice_index firsts rank = first_old rank (omega (arith, before.1)) in
-              let lowest : IsFrom firsts rank (slice_index firsts rank) = record { from = omega arith; before = omega (arith, old.from, old.before) } in
-              let has = is.handed rank place before.1 old (omega (arith, after_first, at)) in
-              let head : slice_index grown (slice_index more rank) ≡ slice_index heads (slice_index firsts rank) = ap (slice_index grown) at ∙ old_head rank (slice_index firsts rank) before.1 lowest in
-              let last = old_head rank place before.1 old in
-              subst (λ n. Has (made + 1) after more grown n (slice_index grown place)) (sym head)
-              (subst (λ n. Has (made + 1) after more grown (slice_index heads (slice_index firsts rank)) n) (sym last) (still_has (slice_index heads (slice_index firsts rank)) (slice_index heads place) has))
-        ]
+              let same : rank ≡ made = omega (arith, late.1, inside, more_count) in
+              let here : slice_index (parents ++ parent ∷ []) rank ≡ parent = get_or_push parents parent 0 rank (omega (arith, many, same)) in
+              subst (λ p. IsParent more grown rank p) (sym here) (subst (λ n. IsParent more grown n parent) (sym same) new)
+          | inr early ↦ subst (λ p. IsParent more grown rank p) (sym (get_or_append_left parents (parent ∷ []) 0 rank (omega (arith, early.1, many)))) (parent_still rank early.1)
+        ];
+      }
+
+      -- a rank whose lowest head is another is a child of it
+      is_parent : (rank head : ℕ) → rank < made → IsLowest firsts heads rank head → slice_index parents rank ≡ head
+      is_parent rank head early lowest =
+          let each = are.each rank (omega (arith, early, is.count)) in
+          elim (cases_eq (slice_index parents rank) NONE) [
+            | inl none ↦ absurd (each.none none head lowest)
+            | inr some ↦ let one = each.lowest some in sym one.is ∙ lowest.is
+          ]
+
+      module _ (lows highs : List ℕ) (made_so_far : AreMade made lows highs firsts heads)
+          (arcs : (head : ℕ) → IsOverArc lows highs made head → Contains found head)
+          (children : (head : ℕ) → IsOverChild firsts heads parents made head → Contains found head) where
+        pub made_more : AreMade (made + 1) lows highs (firsts ++ length grown ∷ []) grown
+        made_more = record {
+          arcs = λ low high early rises over. elim (leb_tells made low) [
+            | inl late ↦
+                let same : low ≡ made = omega (arith, late.1, early) in
+                subst (λ n. HasArc more grown n high) (sym same) (new_arc high (omega (arith, same, rises)) (arcs high (subst (λ n. IsOverArc lows highs n high) same over)))
+            | inr before ↦ old_arc low high before.1 (made_so_far.arcs low high before.1 rises over)
+          ];
+          handed = handed;
+        }
+          where
+            handed : (rank place : ℕ) → rank < made + 1 → IsFrom more rank place → slice_index more rank < place → slice_index grown (slice_index more rank) < made + 1
+                → HasArc more grown (slice_index grown (slice_index more rank)) (slice_index grown place)
+            handed rank place early from later done = elim (leb_tells made rank) [
+              | inl late ↦
+                  let first : IsFrom more rank (slice_index more rank) = record { from = omega arith; before = omega (arith, from.from, from.before) } in
+                  let new = new_place rank (slice_index more rank) late.1 early first in
+                  absurd (omega (arith, done, appends.above (slice_index more rank) new.from new.to))
+              | inr before ↦
+                  let old = old_place rank place before.1 from in
+                  let at : slice_index more rank ≡ slice_index firsts rank = first_old rank (omega (arith, before.1)) in
+                  let after : slice_index firsts rank < place = omega (arith, later, at) in
+                  let first : IsFrom firsts rank (slice_index firsts rank) = record { from = omega arith; before = omega (arith, old.from, old.before) } in
+                  let head : slice_index grown (slice_index more rank) ≡ slice_index heads (slice_index firsts rank) = ap (slice_index grown) at ∙ old_head rank (slice_index firsts rank) before.1 first in
+                  let last = old_head rank place before.1 old in
+                  let rises = is.ascend rank (slice_index firsts rank) place before.1 first old after in
+                  subst (λ n. HasArc more grown n (slice_index grown place)) (sym head)
+                  (subst (λ n. HasArc more grown (slice_index heads (slice_index firsts rank)) n) (sym last)
+                  (by_parent rank place before.1 old after first rises (omega (arith, head, done)) (leb_tells made (slice_index heads (slice_index firsts rank)))))
+            ]
+              where
+                by_parent : (rank place : ℕ) → rank < made → IsFrom firsts rank place → slice_index firsts rank < place → IsFrom firsts rank (slice_index firsts rank) → slice_index heads (slice_index firsts rank) < slice_index heads place → slice_index heads (slice_index firsts rank) < made + 1
+                    → ((leb made (slice_index heads (slice_index firsts rank)) ≡ true) × (made ≤ slice_index heads (slice_index firsts rank))) ⊎ ((leb made (slice_index heads (slice_index firsts rank)) ≡ false) × (slice_index heads (slice_index firsts rank) < made))
+                    → HasArc more grown (slice_index heads (slice_index firsts rank)) (slice_index heads place)
+                by_parent rank place before old after first rises done (inl late) =
+                    let same : slice_index heads (slice_index firsts rank) ≡ made = omega (arith, late.1, done) in
+                    let lowest : IsLowest firsts heads rank made = record { some = first.before; is = same } in
+                    let over : IsOverChild firsts heads parents made (slice_index heads place) = record {
+                      child = rank;
+                      inside = omega (arith, before, many);
+                      parent = is_parent rank made before lowest;
+                      arc = (place, record { is_from = old; head = refl });
+                    } in
+                    subst (λ n. HasArc more grown n (slice_index heads place)) (sym same) (new_arc (slice_index heads place) (omega (arith, same, rises)) (children (slice_index heads place) over))
+                by_parent rank place before old after first rises done (inr low) = old_arc (slice_index heads (slice_index firsts rank)) (slice_index heads place) low.1 (made_so_far.handed rank place before old after low.1)
 
 -- nothing is made yet
-pub grown_none : (lists : List (List ℕ)) → AreAbove (length lists) lists → IsGrown (length lists) 0 lists lists (0 ∷ []) []
-grown_none lists above = record {
-  ranks = refl;
+pub above_none : (nodes : ℕ) → AreAbove nodes 0 (0 ∷ []) []
+above_none nodes = record {
   count = refl;
   last = refl;
   within = λ rank to. let same : rank ≡ 0 = omega (arith, to) in subst (λ n. slice_index (0 ∷ []) n ≤ length {A = ℕ} []) (sym same) (omega arith);
   rises = λ rank early. absurd (omega (arith, early));
-  above = above;
   upward = λ rank place early. absurd (omega (arith, early));
   ascend = λ rank place later early. absurd (omega (arith, early));
+}
+
+pub made_none : (lows highs firsts heads : List ℕ) → AreMade 0 lows highs firsts heads
+made_none lows highs firsts heads = record {
+  arcs = λ low high early. absurd (omega (arith, early));
   handed = λ rank place early. absurd (omega (arith, early));
-  kept = λ low high waits. record { joined = λ early. absurd (omega (arith, early)); waits = λ _. waits };
 }
 
 -- all are made
-module _ (nodes : ℕ) (begin lists : List (List ℕ)) (firsts heads : List ℕ) (is : IsGrown nodes nodes begin lists firsts heads) where
+module _ (nodes : ℕ) (lows highs firsts heads : List ℕ) (is : AreAbove nodes nodes firsts heads) (made : AreMade nodes lows highs firsts heads) where
   abbrev parent_of : ℕ → ℕ
   parent_of rank = slice_index heads (slice_index firsts rank)
 
@@ -203,7 +251,7 @@ module _ (nodes : ℕ) (begin lists : List (List ℕ)) (firsts heads : List ℕ)
       up = is.upward rank (slice_index firsts rank) below lowest
 
       handed : (other : ℕ) → IsFrom firsts rank other → slice_index firsts rank < other → (joining : ℕ) × Joins firsts heads (parent_of rank) (slice_index heads other) joining
-      handed other from_other after = (is.handed rank other below from_other after).joined up.1
+      handed other from_other after = made.handed rank other below from_other after up.1
 
       in_order : (a b : ℕ) → IsFrom firsts (parent_of rank) a → IsFrom firsts (parent_of rank) b → slice_index heads a < slice_index heads b → a < b
       in_order a b from_a from_b less = elim (leb_tells b a) [
@@ -228,33 +276,34 @@ module _ (nodes : ℕ) (begin lists : List (List ℕ)) (firsts heads : List ℕ)
           let found = above (parent_of rank) one.0 two.0 (omega (arith, far, up.0)) up.1 one.1.is_from two.1.is_from before in
           (found.0, subst (λ n. Joins firsts heads n (slice_index heads later) found.0) one.1.head (subst (λ n. Joins firsts heads (slice_index heads one.0) n found.0) two.1.head found.1))
 
-  pub all_made : nodes ≡ length begin → AreAbove nodes begin → IsMade begin firsts heads
-  all_made same above = record {
-    upward = subst (λ n. IsUpward n firsts heads) same (record {
-      count = is.count;
-      within = is.within;
-      rises = is.rises;
-      upward = is.upward;
-      ascend = is.ascend;
-      chordal = λ rank place later below from from_later order. joined nodes rank place later (omega arith) below from from_later order;
-    });
-    kept = λ low high waits. let up = above low high waits in (is.kept low high waits).joined (omega (arith, up.0, up.1));
+  pub all_upward : IsUpward nodes firsts heads
+  all_upward = record {
+    count = is.count;
+    within = is.within;
+    rises = is.rises;
+    upward = is.upward;
+    ascend = is.ascend;
+    chordal = λ rank place later below from from_later order. joined nodes rank place later (omega arith) below from from_later order;
   }
 
--- the list of a rank that is made is freed
-pub freed_grown : (nodes made rank : ℕ) (begin lists after : List (List ℕ)) (firsts heads : List ℕ) → rank < made → IsGrown nodes made begin lists firsts heads → Frees lists after rank → IsGrown nodes made begin after firsts heads
-freed_grown nodes made rank begin lists after firsts heads below is frees = record {
-  ranks = frees.count ∙ is.ranks;
-  count = is.count;
-  last = is.last;
-  within = is.within;
-  rises = is.rises;
-  above = λ low high waits. is.above low high (frees.came low high waits);
-  upward = is.upward;
-  ascend = is.ascend;
-  handed = λ low place early from later. still (slice_index heads (slice_index firsts low)) (slice_index heads place) (is.handed low place early from later);
-  kept = λ low high waits. still low high (is.kept low high waits);
+-- the arcs of a network have upward arcs
+pub all_joined : (roads : Roads) (ranks firsts heads : List ℕ) → AreRanks roads.nodes ranks → IsNetwork roads
+    → AreMade roads.nodes (lower_ends ranks roads.arcs) (higher_ends ranks roads.arcs) firsts heads → AreJoined roads ranks firsts heads
+all_joined roads ranks firsts heads are network made number arc is = record {
+  up = λ rises. made.arcs (rank_of ranks arc.tail) (rank_of ranks arc.head) (omega (arith, rises, low arc.head fits.head)) rises (over (rank_of ranks arc.tail) (rank_of ranks arc.head) (omega (arith, rises)) (omega (arith, rises)));
+  down = λ falls. made.arcs (rank_of ranks arc.head) (rank_of ranks arc.tail) (omega (arith, falls, low arc.tail fits.tail)) falls (over (rank_of ranks arc.head) (rank_of ranks arc.tail) (omega (arith, falls)) (omega (arith, falls)));
 }
   where
-    still : (low high : ℕ) → Has made lists firsts heads low high → Has made after firsts heads low high
-    still low high has = record { joined = has.joined; waits = λ late. frees.kept low high (λ same. omega (arith, same, late, below)) (has.waits late) }
+    fits : FitsNodes roads.nodes arc
+    fits = network.each_fits number arc is
+
+    low : (node : ℕ) → IsNode roads.nodes node → rank_of ranks node < roads.nodes
+    low node is = are.below (node - 1) (omega (arith, is.from_one, is.to_last))
+
+    over : (low high : ℕ) → lower_end ranks arc ≡ low → higher_end ranks arc ≡ high → IsOverArc (lower_ends ranks roads.arcs) (higher_ends ranks roads.arcs) low high
+    over low high is_low is_high = record {
+      place = number - 1;
+      inside = omega (arith, arc_inside roads.arcs (number - 1) arc is.found, length-map roads.arcs (lower_end ranks));
+      low_is = map_at (lower_end ranks) roads.arcs (number - 1) arc is.found ∙ is_low;
+      high_is = map_at (higher_end ranks) roads.arcs (number - 1) arc is.found ∙ is_high;
+    }

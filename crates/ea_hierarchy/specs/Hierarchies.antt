@@ -45,9 +45,18 @@ pub record IsParent (firsts heads : List ℕ) (rank parent : ℕ) : Type 0 where
   pub none : parent ≡ NONE → (head : ℕ) → IsLowest firsts heads rank head → ⊥
 
 -- The parents of all ranks.
-pub record AreParents (firsts heads parents : List ℕ) : Type 0 where
+pub record AreLowestHeads (firsts heads parents : List ℕ) : Type 0 where
   pub count : length parents ≡ length firsts - 1
   pub each : (rank : ℕ) → rank < length firsts - 1 → IsParent firsts heads rank (slice_index parents rank)
+
+-- The parent of a rank is this far above it, unless the distance is 0.
+abbrev pub IsParentAbove : List ℕ → List ℕ → ℕ → ℕ → Type 0
+IsParentAbove firsts heads rank distance = 0 < distance → IsLowest firsts heads rank (rank + distance)
+
+-- The distances to the parents of all ranks.
+pub record AreParents (firsts heads distances : List ℕ) : Type 0 where
+  pub count : length distances ≡ length firsts - 1
+  pub each : (rank : ℕ) → rank < length firsts - 1 → IsParentAbove firsts heads rank (slice_index distances rank)
 
 -- An upward arc leads from a rank to another.
 abbrev pub HasArc : List ℕ → List ℕ → ℕ → ℕ → Type 0

@@ -1,71 +1,50 @@
--- Heads that wait at ranks, until the upward arcs of these are made.
-use Rattle.std.specs.Prelude.{◌≡◌, ◌⊎◌, ℕ, ◌<◌, ◌≤◌, List, [], length, slice_index, slice_index_or}
-use Rattle.ea_road.specs.Roads.{IsArc, Roads}
+-- Numbers that wait at ranks until the upward arcs of these are made. Numbers count from 1, their places in lists from 0.
+use Rattle.std.specs.Prelude.{◌≡◌, ℕ, ◌-◌, ◌<◌, ◌≤◌, All, Contains, List, length, map, max, min, slice_index}
+use Rattle.ea_road.specs.Roads.{Roads}
 use Rattle.ea_road.specs.declared.arc.Arc.{Arc}
 use Rattle.ea_hierarchy.specs.Hierarchies.{rank_of}
 
--- Those of a rank.
-abbrev pub list_at : List (List ℕ) → ℕ → List ℕ
-list_at lists rank = slice_index_or lists rank []
+-- The lower and the higher of the ranks of an arc's ends.
+abbrev pub lower_end : List ℕ → Arc → ℕ
+lower_end ranks arc = min (rank_of ranks arc.tail) (rank_of ranks arc.head)
 
--- A head waits at a rank.
-pub record Waits (lists : List (List ℕ)) (low high : ℕ) : Type 0 where
-  pub place : ℕ
-  pub inside : place < length (list_at lists low)
-  pub is : slice_index (list_at lists low) place ≡ high
+abbrev pub higher_end : List ℕ → Arc → ℕ
+higher_end ranks arc = max (rank_of ranks arc.tail) (rank_of ranks arc.head)
 
--- One more waits, and nothing else changes.
-pub record Adds (lists after : List (List ℕ)) (low high : ℕ) : Type 0 where
-  pub count : length after ≡ length lists
-  pub kept : (rank head : ℕ) → Waits lists rank head → Waits after rank head
-  pub there : Waits after low high
-  pub came : (rank head : ℕ) → Waits after rank head → Waits lists rank head ⊎ ((rank ≡ low) × (head ≡ high))
+-- Those of a list of arcs.
+abbrev pub lower_ends : List ℕ → List Arc → List ℕ
+lower_ends ranks arcs = map (lower_end ranks) arcs
 
--- The same wait, those of a rank in their order.
-pub record Sorts (lists after : List (List ℕ)) (rank : ℕ) : Type 0 where
-  pub count : length after ≡ length lists
-  pub kept : (low high : ℕ) → Waits lists low high → Waits after low high
-  pub came : (low high : ℕ) → Waits after low high → Waits lists low high
-  pub ascend : (place later : ℕ) → place ≤ later → later < length (list_at after rank) → slice_index (list_at after rank) place ≤ slice_index (list_at after rank) later
+abbrev pub higher_ends : List ℕ → List Arc → List ℕ
+higher_ends ranks arcs = map (higher_end ranks) arcs
 
--- Nothing waits at a rank any more; at the others the same heads wait.
-pub record Frees (lists after : List (List ℕ)) (rank : ℕ) : Type 0 where
-  pub count : length after ≡ length lists
-  pub gone : list_at after rank ≡ []
-  pub kept : (low high : ℕ) → (low ≡ rank → ⊥) → Waits lists low high → Waits after low high
-  pub came : (low high : ℕ) → Waits after low high → Waits lists low high
+-- A list says at which rank each number waits. The newest of a rank and those before it, as far as there are any, are all that wait there.
+pub record AreWaiting (lows newest earlier : List ℕ) : Type 0 where
+  pub within : (rank : ℕ) → slice_index newest rank ≤ length earlier
+  pub falls : (place : ℕ) → slice_index earlier place ≤ place
+  pub newest_there : (rank : ℕ) → 0 < slice_index newest rank → slice_index lows (slice_index newest rank - 1) ≡ rank
+  pub earlier_there : (place : ℕ) → 0 < slice_index earlier place → slice_index lows (slice_index earlier place - 1) ≡ slice_index lows place
+  pub none_newer : (place : ℕ) → place < length earlier → slice_index lows place < length newest → place < slice_index newest (slice_index lows place)
+  pub none_between : (place later : ℕ) → place < later → later < length earlier → slice_index lows place ≡ slice_index lows later → slice_index lows place < length newest
+      → place < slice_index earlier later
 
--- Each that waits is above its rank.
-abbrev pub AreAbove : ℕ → List (List ℕ) → Type 0
-AreAbove nodes lists = (low high : ℕ) → Waits lists low high → (low < high) × (high < nodes)
+-- The arcs of a network wait at the lower of their ends.
+pub record AreArcsWaiting (roads : Roads) (ranks newest earlier : List ℕ) : Type 0 where
+  pub room : length newest ≡ roads.nodes
+  pub count : length earlier ≡ length roads.arcs
+  pub waiting : AreWaiting (lower_ends ranks roads.arcs) newest earlier
 
--- The ends of an arc wait for one another, the higher at the lower.
-pub record IsListed (ranks : List ℕ) (lists : List (List ℕ)) (arc : Arc) : Type 0 where
-  pub up : rank_of ranks arc.tail < rank_of ranks arc.head → Waits lists (rank_of ranks arc.tail) (rank_of ranks arc.head)
-  pub down : rank_of ranks arc.head < rank_of ranks arc.tail → Waits lists (rank_of ranks arc.head) (rank_of ranks arc.tail)
+-- Numbers are put into a list: all of a kind, and none that isn't below the number of nodes.
+pub record Finds (nodes : ℕ) (IsWanted : ℕ → Type 0) (before after : List ℕ) : Type 0 where
+  pub kept : (number : ℕ) → Contains before number → Contains after number
+  pub all : (number : ℕ) → IsWanted number → Contains after number
+  pub below : All (λ number. number < nodes) before → All (λ number. number < nodes) after
 
--- One more arc is listed, and those listed before stay so.
-pub record ListsArc (nodes : ℕ) (ranks : List ℕ) (lists after : List (List ℕ)) (arc : Arc) : Type 0 where
-  pub count : length after ≡ length lists
-  pub kept : (low high : ℕ) → Waits lists low high → Waits after low high
-  pub above : AreAbove nodes after
-  pub listed : IsListed ranks after arc
-
-abbrev pub AreListed : Roads → List ℕ → List (List ℕ) → Type 0
-AreListed roads ranks lists = (number : ℕ) (arc : Arc) → IsArc roads number arc → IsListed ranks lists arc
-
--- The numbers of a list, each once and ascending, are put after others.
-pub record Appends (list before after : List ℕ) : Type 0 where
+-- The numbers of a list that are above a rank, each once and ascending, are put after others.
+pub record Appends (list : List ℕ) (rank : ℕ) (before after : List ℕ) : Type 0 where
   pub long : length before ≤ length after
   pub old : (place : ℕ) → place < length before → slice_index after place ≡ slice_index before place
+  pub above : (place : ℕ) → length before ≤ place → place < length after → rank < slice_index after place
   pub ascend : (place later : ℕ) → length before ≤ place → place < later → later < length after → slice_index after place < slice_index after later
   pub of_list : (place : ℕ) → length before ≤ place → place < length after → (from : ℕ) × (from < length list) × (slice_index list from ≡ slice_index after place)
-  pub all : (from : ℕ) → from < length list → (place : ℕ) × (length before ≤ place) × (place < length after) × (slice_index after place ≡ slice_index list from)
-
--- The heads from a place on are handed on to the first of them.
-pub record HandsOn (lists after : List (List ℕ)) (heads : List ℕ) (first : ℕ) : Type 0 where
-  pub count : length after ≡ length lists
-  pub kept : (low high : ℕ) → Waits lists low high → Waits after low high
-  pub there : (place : ℕ) → first < place → place < length heads → Waits after (slice_index heads first) (slice_index heads place)
-  pub came : (low high : ℕ) → Waits after low high
-      → Waits lists low high ⊎ ((place : ℕ) × (first < place) × (place < length heads) × (low ≡ slice_index heads first) × (high ≡ slice_index heads place))
+  pub all : (from : ℕ) → from < length list → rank < slice_index list from → (place : ℕ) × (length before ≤ place) × (place < length after) × (slice_index after place ≡ slice_index list from)

@@ -1,4 +1,5 @@
 //! The neighbours of a few nodes as rows of bits.
+use crate::neighbours::{Neighbours, count_of};
 use crate::numbers::{NONE, number_at};
 use std::alloc::{AllocError, Global};
 
@@ -65,18 +66,15 @@ impl BitRows {
         self.width > 0
     }
 
-    /// The rows of the nodes that aren't gone, by the lists of their neighbours.
-    pub(crate) fn of(
-        alloc: Global,
-        around: &[Vec<u32>],
-        gone: &[bool],
-    ) -> Result<BitRows, AllocError> {
+    /// The rows of the nodes that are left.
+    pub(crate) fn of(alloc: Global, around: &Neighbours) -> Result<BitRows, AllocError> {
         let mut rows = BitRows::none(alloc);
-        rows.places.resize(gone.len(), NONE)?;
-        for node in 0..gone.len().min(NONE as usize) {
-            if !gone[node] && node < rows.places.len() {
-                rows.places[node] = rows.nodes.len().min(NONE as usize) as u32;
-                rows.nodes.push(node as u32)?;
+        rows.places.resize(around.nodes(), NONE)?;
+        for node in 0..rows.places.len() {
+            let number = count_of(node);
+            if around.is_left(number) {
+                rows.places[node] = count_of(rows.nodes.len());
+                rows.nodes.push(number)?;
             }
         }
         let count = rows.nodes.len();
@@ -84,10 +82,8 @@ impl BitRows {
         rows.words.resize(count.saturating_mul(rows.width), 0)?;
         rows.degrees.resize(count, 0)?;
         for place in 0..count {
-            let node = number_at(&rows.nodes, place) as usize;
-            if node < around.len() {
-                rows.fill(place, &around[node]);
-            }
+            let node = number_at(&rows.nodes, place);
+            rows.fill(place, around.list(node));
         }
         Ok(rows)
     }
@@ -146,9 +142,9 @@ impl BitRows {
         Ok(())
     }
 
-    /// The nodes of the row that is taken out, ascending.
-    fn taken_nodes(&self, alloc: Global) -> Result<Vec<u32>, AllocError> {
-        let mut nodes = Vec::new(alloc);
+    /// Writes the nodes of the row that is taken out, ascending.
+    fn take_nodes(&self, nodes: &mut Vec<u32>) -> Result<(), AllocError> {
+        nodes.clear();
         for word in &self.some {
             let mut bits = match self.taken.get(*word) {
                 Some(bits) => *bits,
@@ -164,15 +160,15 @@ impl BitRows {
                 bits &= bits.wrapping_sub(1);
             }
         }
-        Ok(nodes)
+        Ok(())
     }
 
-    /// Takes a node out: its neighbours become neighbours of one another. Returns them, ascending.
-    pub(crate) fn eliminate(&mut self, alloc: Global, node: u32) -> Result<Vec<u32>, AllocError> {
+    /// Takes a node out: its neighbours become neighbours of one another. Writes which they are, ascending.
+    pub(crate) fn eliminate(&mut self, node: u32, others: &mut Vec<u32>) -> Result<(), AllocError> {
         let gone = number_at(&self.places, node as usize) as usize;
         self.take_row(gone)?;
-        let others = self.taken_nodes(alloc)?;
-        for other in &others {
+        self.take_nodes(others)?;
+        for other in others.iter() {
             let place = number_at(&self.places, *other as usize) as usize;
             let begin = place.saturating_mul(self.width);
             let more = unite(&self.taken, &self.some, &mut self.words, begin);
@@ -183,6 +179,6 @@ impl BitRows {
                 self.degrees[place] = self.degrees[place].saturating_add(more).saturating_sub(2);
             }
         }
-        Ok(others)
+        Ok(())
     }
 }

@@ -14,6 +14,14 @@ pub struct Bounds {
     pub(crate) path: Vec<u32>,
 }
 
+/// What a caller learns of a bound.
+#[inline(always)]
+fn tell(bound: u32) -> Option<u32>
+    ensures { result ≡ told bound }
+{
+    if bound == NONE { None } else { Some(bound) }
+}
+
 impl Bounds {
     /// Room for bounds over a preparation. An error comes only if memory was refused.
     pub fn new(alloc: Global, prepared: &Prepared) -> Result<Bounds, AllocError>
@@ -34,7 +42,7 @@ impl Bounds {
         requires to_last { target ≤ length prepared.now.ranks }
         ensures { AreBoundsTo prepared.now target self.new }
     {
-        let rank = prepared.ranks[target as usize - 1];
+        let rank = prepared.ranks.of(target);
         self.cells.begin(
             &prepared.upward,
             &prepared.numbers,
@@ -56,7 +64,7 @@ impl Bounds {
         ensures same { (other : ℕ) → bound_of prepared.now self.new other
             ≡ bound_of prepared.now self.old other }
     {
-        let rank = prepared.ranks[node as usize - 1];
+        let rank = prepared.ranks.of(node);
         self.cells.climb(&prepared.upward, rank, &mut self.path);
         self.cells.descend(
             &prepared.upward,
@@ -64,7 +72,6 @@ impl Bounds {
             &prepared.trimmed_ups,
             &mut self.path,
         );
-        let bound = self.cells.bound(rank);
-        if bound == NONE { None } else { Some(bound) }
+        tell(self.cells.bound(rank))
     }
 }

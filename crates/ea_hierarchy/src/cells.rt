@@ -365,6 +365,7 @@ impl Cells {
     /// The ranks up the path of lowest heads from one on, up to the first whose bound is found.
     pub(crate) fn climb(&self, upward: &Upward, rank: u32, path: &mut Vec<u32>)
         requires upward { AreUpward upward.now.firsts.items upward.now.heads.items }
+        requires few { length upward.now.firsts.items < 2 ^ 32 }
         requires parents { AreParents upward.now.firsts.items upward.now.heads.items
             upward.now.parents.items }
         requires rank { rank < length upward.now.firsts.items - 1 }
@@ -380,7 +381,7 @@ impl Cells {
         let mut at = rank;
         while !self.is_final(at) {
             path.push_reserved(at);
-            let parent = upward.parents[at as usize];
+            let parent = upward.parent(at);
             if parent == NONE {
                 return;
             }

@@ -7,12 +7,13 @@ ghost use Rattle.ea_hierarchy.specs.Preparations.{AreCovered};
 
 use crate::customize::{Numbers, place_of};
 use crate::numbers::capped;
+use crate::ranks::Ranks;
 use crate::upward::Upward;
 use ea_road::{Arc, Network};
 use ea_travel_times::TravelTimes;
 
 /// Lowers the number of an arc's direction to a least travel time.
-fn cover_arc(ranks: &[u32], upward: &Upward, arc: Arc, low: u64, numbers: &mut Numbers)
+fn cover_arc(ranks: &Ranks, upward: &Upward, arc: Arc, low: u64, numbers: &mut Numbers)
     requires upward { AreUpward upward.now.firsts.items upward.now.heads.items }
     requires ranks { AreRanks (length upward.now.firsts.items - 1) ranks.now }
     requires arc { FitsNodes (length upward.now.firsts.items - 1) arc }
@@ -24,8 +25,8 @@ fn cover_arc(ranks: &[u32], upward: &Upward, arc: Arc, low: u64, numbers: &mut N
     ensures covered { IsCovered ranks.now upward.now.firsts.items upward.now.heads.items
         numbers.new.ups.items numbers.new.downs.items arc low }
 {
-    let tail = ranks[arc.tail as usize - 1];
-    let head = ranks[arc.head as usize - 1];
+    let tail = ranks.of(arc.tail);
+    let head = ranks.of(arc.head);
     let low = capped(low);
     if tail < head {
         let place = place_of(upward, tail, head);
@@ -42,7 +43,7 @@ fn cover_arc(ranks: &[u32], upward: &Upward, arc: Arc, low: u64, numbers: &mut N
 pub(crate) fn cover<T: TravelTimes>(
     network: &Network,
     times: &T,
-    ranks: &[u32],
+    ranks: &Ranks,
     upward: &Upward,
     numbers: &mut Numbers,
 )

@@ -5,11 +5,12 @@ ghost use Rattle.ea_hierarchy.specs.Growth.{AreJoined, IsJoined};
 ghost use Rattle.ea_hierarchy.specs.Hierarchies.{AreRanks, AreUpward};
 
 use crate::customize::has_arc;
+use crate::ranks::Ranks;
 use crate::upward::Upward;
 use ea_road::{Arc, Network};
 
 /// Whether an upward arc joins the ends of an arc; those of a loop need none.
-fn is_joined(ranks: &[u32], upward: &Upward, arc: Arc) -> bool
+fn is_joined(ranks: &Ranks, upward: &Upward, arc: Arc) -> bool
     requires upward { AreUpward upward.now.firsts.items upward.now.heads.items }
     requires ranks { AreRanks (length upward.now.firsts.items - 1) ranks.now }
     requires arc { FitsNodes (length upward.now.firsts.items - 1) arc }
@@ -18,8 +19,8 @@ fn is_joined(ranks: &[u32], upward: &Upward, arc: Arc) -> bool
     ensures none { result ≡ false
         → IsJoined ranks.now upward.now.firsts.items upward.now.heads.items arc → ⊥ }
 {
-    let tail = ranks[arc.tail as usize - 1];
-    let head = ranks[arc.head as usize - 1];
+    let tail = ranks.of(arc.tail);
+    let head = ranks.of(arc.head);
     if tail < head {
         return has_arc(upward, tail, head);
     }
@@ -30,7 +31,7 @@ fn is_joined(ranks: &[u32], upward: &Upward, arc: Arc) -> bool
 }
 
 /// Whether upward arcs join the ends of all arcs of a network.
-pub(crate) fn are_joined(network: &Network, ranks: &[u32], upward: &Upward) -> bool
+pub(crate) fn are_joined(network: &Network, ranks: &Ranks, upward: &Upward) -> bool
     requires upward { AreUpward upward.now.firsts.items upward.now.heads.items }
     requires nodes { length upward.now.firsts.items ≡ network.now.nodes + 1 }
     requires ranks { AreRanks network.now.nodes ranks.now }

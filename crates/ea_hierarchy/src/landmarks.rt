@@ -7,13 +7,41 @@ use std::alloc::{AllocError, Global};
 /// How many landmarks there are.
 const LANDMARKS: usize = 3;
 
+/// No walk to a landmark.
+const NO_WALK: u16 = u16::MAX;
+
+/// The greatest time to a landmark: longer ones count as this.
+const LONGEST: u16 = u16::MAX - 1;
+
 /// Least travel times from each rank to some landmarks, which are ranks far from one another (Goldberg and
 /// Harrelson, 2005). They are hints: no answer rests on them.
 #[derive(Drop)]
 pub(crate) struct Landmarks {
     alloc: Global,
+    /// What times are counted in.
+    unit: u32,
     /// Those from a rank side by side, rank after rank.
-    times: Vec<u32>,
+    times: Vec<u16>,
+}
+
+/// The unit in which times have 16 bits if the longest is at most twice as long as one of these.
+fn unit_of(times: &[u32]) -> u32 {
+    let mut longest = 0;
+    for time in times {
+        if *time < NONE {
+            longest = longest.max(*time);
+        }
+    }
+    longest / u32::from(LONGEST / 2) + 1
+}
+
+/// A time in whole units.
+fn in_units(time: u32, unit: u32) -> u16 {
+    if time == NONE {
+        return NO_WALK;
+    }
+    let units = time.checked_div(unit).unwrap_or(0);
+    units.min(u32::from(LONGEST)) as u16
 }
 
 /// Lowers the number at a place of a list.
@@ -88,6 +116,7 @@ impl Landmarks {
     pub(crate) fn none(alloc: Global) -> Landmarks {
         Landmarks {
             alloc,
+            unit: 1,
             times: Vec::new(alloc),
         }
     }
@@ -96,7 +125,9 @@ impl Landmarks {
     fn take_up(&mut self, number: usize, times: &[u32]) {
         for rank in 0..times.len() {
             let place = rank.saturating_mul(LANDMARKS).saturating_add(number);
-            lower(&mut self.times, place, times[rank]);
+            if let Some(slot) = self.times.get_mut(place) {
+                *slot = in_units(times[rank], self.unit);
+            }
         }
     }
 
@@ -106,10 +137,13 @@ impl Landmarks {
         let ranks = upward.parents.len();
         self.times.clear();
         let mut nearest = times_to(self.alloc, upward, numbers, ranks.saturating_sub(1))?;
-        self.times.resize(ranks.saturating_mul(LANDMARKS), NONE)?;
+        self.times.resize(ranks.saturating_mul(LANDMARKS), NO_WALK)?;
         for number in 0..LANDMARKS {
             let landmark = farthest(&nearest);
             let times = times_to(self.alloc, upward, numbers, landmark)?;
+            if number == 0 {
+                self.unit = unit_of(&times);
+            }
             self.take_up(number, &times);
             for rank in 0..times.len() {
                 lower(&mut nearest, rank, times[rank]);
@@ -118,18 +152,29 @@ impl Landmarks {
         Ok(())
     }
 
-    /// How far apart two ranks are at least, if all arcs take as long in both directions; 0 if it isn't known.
+    /// The time from a rank to a landmark, in units; `NO_WALK` if it isn't known.
+    fn units(&self, rank: u32, number: usize) -> u16 {
+        let place = (rank as usize).saturating_mul(LANDMARKS);
+        match self.times.get(place.saturating_add(number)) {
+            Some(units) => *units,
+            None => NO_WALK,
+        }
+    }
+
+    /// How far apart two ranks are at least, if all arcs take as long in both directions; 0 if it isn't known. Two units or less are lost by
+    /// rounding.
     pub(crate) fn apart(&self, rank: u32, other: u32) -> u32 {
         let mut apart = 0;
         for number in 0..LANDMARKS {
-            let place = (rank as usize).saturating_mul(LANDMARKS);
-            let time = number_at(&self.times, place.saturating_add(number));
-            let place = (other as usize).saturating_mul(LANDMARKS);
-            let other_time = number_at(&self.times, place.saturating_add(number));
-            if time < NONE && other_time < NONE {
-                apart = apart.max(time.abs_diff(other_time));
+            let units = self.units(rank, number);
+            let other_units = self.units(other, number);
+            if units < NO_WALK && other_units < NO_WALK {
+                apart = apart.max(units.abs_diff(other_units));
             }
         }
-        apart
+        // Each time is at most one unit less one longer than its whole units.
+        u32::from(apart)
+            .saturating_mul(self.unit)
+            .saturating_sub(self.unit.saturating_sub(1))
     }
 }

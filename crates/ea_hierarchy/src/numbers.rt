@@ -55,3 +55,11 @@ pub(crate) fn number_at(list: &[u32], place: usize) -> u32 {
         None => NONE,
     }
 }
+
+/// Writes a number at a place of a list, if there is one.
+#[inline(always)]
+pub(crate) fn write_number(list: &mut [u32], place: usize, number: u32) {
+    if let Some(slot) = list.get_mut(place) {
+        *slot = number;
+    }
+}

@@ -6,18 +6,17 @@ ghost use Rattle.ea_hierarchy.specs.Orders.{IsOrder};
 ghost use Rattle.ea_hierarchy.specs.Preparations.{IsPreparedFor, IsPreparedOver};
 ghost use Rattle.ea_hierarchy.specs.declared.unprepared.Unprepared.TheVariants.{NoOrder};
 
-use crate::chains::chains_of;
+use crate::chains::Chains;
 use crate::cover::cover;
 use crate::customize::{Numbers, relax};
 use crate::joined::are_joined;
 use crate::landmarks::Landmarks;
 use crate::numbers::NONE;
 use crate::postorder::elimination_order;
-use crate::ranks::{is_order, ranks_of};
+use crate::ranks::{Ranks, is_order};
 use crate::trimmed::Trimmed;
 use crate::unprepared::Unprepared;
-use crate::upward::{Limits, Upward, copy_of, mean_arcs_above, upward_of};
-use crate::waiting::lists_of;
+use crate::upward::{Limits, Upward, mean_arcs_above, upward_of};
 use ea_road::Network;
 use ea_travel_times::TravelTimes;
 use std::alloc::{AllocError, Global};
@@ -28,13 +27,12 @@ use std::marker::Model;
 /// joined, too; and each has two numbers, one for each direction. In contracts it is these lists.
 #[derive(Drop)]
 pub struct Prepared {
-    pub(crate) ranks: Vec<u32>,
+    pub(crate) ranks: Ranks,
     pub(crate) upward: Upward,
     pub(crate) numbers: Numbers,
     pub(crate) trimmed_ups: Trimmed,
     pub(crate) trimmed_downs: Trimmed,
-    /// For each node whether it is on a chain.
-    chains: Vec<bool>,
+    chains: Chains,
     /// How many nodes a search may scan in less than the time of a first bound.
     near: u32,
     landmarks: Landmarks,
@@ -47,7 +45,7 @@ impl Model for Prepared {
     ghost Value = { Hierarchy };
 
     ghost view = { λ p. record {
-      ranks = p.ranks.items;
+      ranks = p.ranks;
       firsts = p.upward.firsts.items;
       heads = p.upward.heads.items;
       ups = p.numbers.ups.items;
@@ -55,7 +53,7 @@ impl Model for Prepared {
     } };
 
     ghost invariant = { λ p. IsHierarchy (record {
-      ranks = p.ranks.items;
+      ranks = p.ranks;
       firsts = p.upward.firsts.items;
       heads = p.upward.heads.items;
       ups = p.numbers.ups.items;
@@ -72,7 +70,7 @@ impl Model for Prepared {
 fn upward_over(
     alloc: Global,
     network: &Network,
-    ranks: &[u32],
+    ranks: &Ranks,
 ) -> Result<Option<Upward>, AllocError>
     requires { AreRanks network.now.nodes ranks.now }
     ensures upward { IfOk result (λ made. IfSome made (λ upward.
@@ -85,11 +83,7 @@ fn upward_over(
         AreParents upward.firsts.items upward.heads.items upward.parents.items)) }
 {
     network.keeps_limits();
-    let lists = lists_of(alloc, network, ranks)?;
-    match upward_of(alloc, lists, Limits::of(network))? {
-        Some(upward) => Ok(Some(upward)),
-        None => Ok(None),
-    }
+    upward_of(alloc, network, ranks, Limits::of(network))
 }
 
 /// How many nodes a search scans before `Prepared::near` is asked.
@@ -123,7 +117,7 @@ fn numbers_for<T: TravelTimes>(
     alloc: Global,
     network: &Network,
     times: &T,
-    ranks: &[u32],
+    ranks: &Ranks,
     upward: &Upward,
 ) -> Result<Numbers, AllocError>
     requires classes { top_class network.now.arcs ≤ T.classes times.now }
@@ -154,15 +148,6 @@ fn numbers_for<T: TravelTimes>(
     Ok(numbers)
 }
 
-/// The numbers of this many nodes, ascending.
-fn numbers_of(alloc: Global, nodes: u32) -> Result<Vec<u32>, AllocError> {
-    let mut order = Vec::with_capacity(alloc, nodes as usize)?;
-    for place in 0..nodes {
-        order.push(place + 1)?;
-    }
-    Ok(order)
-}
-
 impl Prepared {
     /// A preparation of a network over a separate order: the nodes are eliminated by least degree and level.
     /// `NotWorth` comes if there are too many upward arcs or triangles for the network's size, `OutOfMemory` if
@@ -177,7 +162,9 @@ impl Prepared {
         ensures refused { IfErr result (λ why. why ≡ NoOrder → ⊥) }
     {
         let order = elimination_order(alloc, network)?;
-        Prepared::over(alloc, network, times, &order)
+        let ranks = Ranks::in_order(alloc, network.nodes(), &order)?;
+        drop(order);
+        Prepared::over(alloc, network, times, ranks)
     }
 
     /// A preparation of a network over the order of its numbers, such as of one that was renumbered in an `elimination_order`. `NotWorth` and
@@ -191,8 +178,8 @@ impl Prepared {
         ensures prepared { IfOk result (IsPreparedFor network.now (T.answers times.now)) }
         ensures refused { IfErr result (λ why. why ≡ NoOrder → ⊥) }
     {
-        let order = numbers_of(alloc, network.nodes())?;
-        Prepared::over(alloc, network, times, &order)
+        let ranks = Ranks::by_numbers(network.nodes());
+        Prepared::over(alloc, network, times, ranks)
     }
 
     /// A preparation of a network over an order of its nodes: any permutation serves. `NoOrder` comes if the list is no order, `NotWorth` if
@@ -211,21 +198,22 @@ impl Prepared {
         if !is_order(alloc, network.nodes(), order)? {
             return Err(Unprepared::NoOrder);
         }
-        Prepared::over(alloc, network, times, order)
+        let ranks = Ranks::in_order(alloc, network.nodes(), order)?;
+        Prepared::over(alloc, network, times, ranks)
     }
 
-    /// A preparation of a network over any list.
+    /// A preparation of a network over any ranks of its nodes.
     fn over<T: TravelTimes>(
         alloc: Global,
         network: &Network,
         times: &T,
-        order: &[u32],
+        ranks: Ranks,
     ) -> Result<Prepared, Unprepared>
-        requires { top_class network.now.arcs ≤ T.classes times.now }
+        requires classes { top_class network.now.arcs ≤ T.classes times.now }
+        requires ranks { AreRanks network.now.nodes ranks }
         ensures prepared { IfOk result (IsPreparedFor network.now (T.answers times.now)) }
         ensures refused { IfErr result (λ why. why ≡ NoOrder → ⊥) }
     {
-        let ranks = ranks_of(alloc, network.nodes(), order)?;
         let Some(upward) = upward_over(alloc, network, &ranks)? else {
             return Err(Unprepared::NotWorth);
         };
@@ -237,19 +225,19 @@ impl Prepared {
         alloc: Global,
         network: &Network,
         times: &T,
-        ranks: Vec<u32>,
+        ranks: Ranks,
         upward: Upward,
     ) -> Result<Prepared, AllocError>
         requires classes { top_class network.now.arcs ≤ T.classes times.now }
         requires upward { AreUpward upward.firsts.items upward.heads.items }
         requires nodes { length upward.firsts.items ≡ network.now.nodes + 1 }
-        requires ranks { AreRanks network.now.nodes ranks.items }
-        requires joined { AreJoined network.now ranks.items upward.firsts.items upward.heads.items }
+        requires ranks { AreRanks network.now.nodes ranks }
+        requires joined { AreJoined network.now ranks upward.firsts.items upward.heads.items }
         requires parents { AreParents upward.firsts.items upward.heads.items upward.parents.items }
         ensures { IfOk result (IsPreparedFor network.now (T.answers times.now)) }
     {
         let numbers = numbers_for(alloc, network, times, &ranks, &upward)?;
-        let chains = chains_of(alloc, network)?;
+        let chains = Chains::of(alloc, network)?;
         let near = near_by(&upward);
         let mut landmarks = Landmarks::none(alloc);
         landmarks.fill(&upward, &numbers)?;
@@ -290,7 +278,7 @@ impl Prepared {
         if !are_joined(network, &self.ranks, &self.upward) {
             return Ok(None);
         }
-        let ranks = copy_of(alloc, &self.ranks)?;
+        let ranks = self.ranks.again(alloc)?;
         let upward = self.upward.again(alloc)?;
         let made = Prepared::on(alloc, network, times, ranks, upward)?;
         Ok(Some(made))
@@ -316,16 +304,16 @@ impl Prepared {
     pub fn nodes(&self) -> u32
         ensures { result ≡ length self.now.ranks }
     {
-        self.ranks.len() as u32
+        self.ranks.nodes()
     }
 
     /// The order of the nodes, from the first that is passed over to the last: it serves any road with as many nodes. An error comes only if
     /// memory was refused.
     pub fn order(&self, alloc: Global) -> Result<Vec<u32>, AllocError> {
-        let mut order = vec![in alloc; 0u32; self.ranks.len()]?;
-        for place in 0..self.ranks.len() {
-            let node = (place as u32).saturating_add(1);
-            if let Some(slot) = order.get_mut(self.ranks[place] as usize) {
+        let nodes = self.ranks.nodes();
+        let mut order = vec![in alloc; 0u32; nodes as usize]?;
+        for node in 1..=nodes {
+            if let Some(slot) = order.get_mut(self.ranks.of(node) as usize) {
                 *slot = node;
             }
         }
@@ -335,10 +323,7 @@ impl Prepared {
     /// Whether a node is on a chain: it has at most two neighbours, so a search may pass through it without a bound.
     #[inline(always)]
     pub fn is_on_chain(&self, node: u32) -> bool {
-        match self.chains.get((node as usize).wrapping_sub(1)) {
-            Some(is) => *is,
-            None => false,
-        }
+        self.chains.has(node)
     }
 
     /// How many upward arcs bounds need no look at, since two others replace them, in both directions together.
@@ -359,18 +344,21 @@ impl Prepared {
         }
     }
 
-    /// How far apart two nodes are by landmarks; 0 if it isn't known. No more than the least travel time between them if all arcs take as
-    /// long in both directions. A hint for what to try first, and no bound.
+    /// How far apart two nodes are by landmarks, rounded down by up to a 16,000th of the longest time to one; 0 if it isn't known. No more than
+    /// the least travel time between them if all arcs take as long in both directions. A hint for what to try first, and no bound.
     pub fn apart(&self, source: u32, target: u32) -> u32 {
         self.landmarks.apart(self.rank(source), self.rank(target))
     }
 
     /// The rank of a node; 0 if there is no such node.
     fn rank(&self, node: u32) -> u32 {
-        match self.ranks.get((node as usize).wrapping_sub(1)) {
-            Some(rank) => *rank,
-            None => 0,
+        if node == 0 {
+            return 0;
         }
+        if node > self.ranks.nodes() {
+            return 0;
+        }
+        self.ranks.of(node)
     }
 
     /// For proofs: the upward arcs and their numbers are in order. Does nothing at run time.

@@ -3,13 +3,17 @@ ghost use Rattle.std.specs.Prelude.{◌≡◌, ◌≤◌, ◌<◌, ◌-◌, ◌^
 ghost use Rattle.ea_hierarchy.specs.Hierarchies.{AreUpward, IsFrom};
 ghost use Rattle.ea_hierarchy.specs.Trimmed.{AreMarked, AreTrimmed, IsReplaced, IsTrimmed};
 
-use crate::numbers::plus;
+use crate::neighbours::count_of;
+use crate::numbers::{number_at, plus};
 use crate::upward::Upward;
 use std::alloc::{AllocError, Global};
 
-/// Ranks with at least this many upward arcs have a list without the replaced ones. A search looks mostly at arcs of such ranks, and about
-/// a third of them are left.
+/// Ranks with fewer upward arcs have no row.
 const LONG: usize = 128;
+
+/// Rows are made for at most this many arcs, and for half as many more as there are nodes. About a third of the arcs are left, of eight bytes
+/// for each direction, so all rows take less than three bytes a node.
+const MOST_ARCS: usize = 65_536;
 
 /// An upward arc that is left: its head, and its number.
 #[derive(Clone, Copy)]
@@ -25,12 +29,14 @@ pub(crate) struct LeftArcs {
     links: Vec<Link>,
 }
 
-/// The rows of ranks with many arcs. A hint says which row may be a rank's, by the place of its first arc; what the row says of itself
-/// decides.
+/// The rows of ranks with many arcs. A search looks mostly at arcs of such ranks. A hint says which row may be a rank's, by the place of its
+/// first arc; what the row says of itself decides.
 #[derive(Drop)]
 pub(crate) struct Trimmed {
     alloc: Global,
-    hints: Vec<usize>,
+    /// Ranks with at least this many arcs have rows.
+    long: usize,
+    hints: Vec<u32>,
     rows: Vec<LeftArcs>,
     /// How many arcs are in no row of their ranks.
     pub(crate) left_out: u64,
@@ -134,6 +140,33 @@ fn links_of(
     Ok(links)
 }
 
+/// How many upward arcs the ranks have together that have at least this many.
+fn arcs_of_long(upward: &Upward, long: usize) -> usize {
+    let mut arcs = 0usize;
+    let mut begin = 0u32;
+    for first in &upward.firsts {
+        let here = first.saturating_sub(begin) as usize;
+        if here >= long {
+            arcs = arcs.saturating_add(here);
+        }
+        begin = *first;
+    }
+    arcs
+}
+
+/// How many upward arcs a rank needs to have a row, so that rows are made for no more arcs than may be.
+fn least_long(upward: &Upward) -> usize {
+    let most = (upward.parents.len() / 2).saturating_add(MOST_ARCS);
+    let mut long = LONG;
+    for _ in 0..u32::BITS {
+        if arcs_of_long(upward, long) <= most {
+            return long;
+        }
+        long = long.saturating_add(long / 4);
+    }
+    usize::MAX
+}
+
 impl Trimmed {
     /// No rows.
     pub(crate) fn none(alloc: Global) -> Trimmed
@@ -141,6 +174,7 @@ impl Trimmed {
     {
         Trimmed {
             alloc,
+            long: LONG,
             hints: Vec::new(alloc),
             rows: Vec::new(alloc),
             left_out: 0,
@@ -153,7 +187,7 @@ impl Trimmed {
             → IsTrimmed firsts heads numbers rank links.items
             → AreTrimmed firsts heads numbers self.new.rows.items }
     {
-        let row = self.rows.len();
+        let row = count_of(self.rows.len());
         if let Some(hint) = self.hints.get_mut(begin / LONG) {
             *hint = row;
         }
@@ -170,13 +204,14 @@ impl Trimmed {
             self.new.rows.items }
     {
         self.left_out = 0;
+        self.long = least_long(upward);
         self.rows.clear();
         self.hints.clear();
         self.hints.resize(upward.heads.len() / LONG + 1, 0)?;
         for rank in 0..upward.firsts.len() - 1 {
             let begin = upward.firsts[rank] as usize;
             let arcs = upward.firsts[rank + 1] as usize - begin;
-            if arcs >= LONG {
+            if arcs >= self.long {
                 let links = links_of(self.alloc, upward, numbers, rank as u32)?;
                 let more = arcs.saturating_sub(links.len()) as u64;
                 self.left_out = self.left_out.saturating_add(more);
@@ -195,11 +230,12 @@ impl Trimmed {
         let begin = upward.firsts[rank as usize] as usize;
         let end = upward.firsts[rank as usize + 1] as usize;
         // Most ranks have few arcs: hints and rows aren't touched for them.
-        if end.saturating_sub(begin) < LONG {
+        if end.saturating_sub(begin) < self.long {
             return None;
         }
-        let hint = *self.hints.get(begin / LONG)?;
-        let row = self.rows.get(hint)?;
+        let row = self
+            .rows
+            .get(number_at(&self.hints, begin / LONG) as usize)?;
         if row.rank == rank {
             Some(&row.links)
         } else {

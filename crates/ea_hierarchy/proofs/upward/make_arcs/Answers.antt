@@ -1,38 +1,74 @@
-use Rattle.std.proofs.Common.{arith, ap, [], ◌∷◌, ◌++◌, ◌+◌, length, map, sym, subst, ◌≡◌, ◌<◌, ◌∙◌, ℕ, List}
+use Rattle.std.proofs.Common.{arith, length, subst, [], ◌∷◌, ◌++◌, ◌≡◌, ◌∙◌, ℕ, List}
 use Rattle.std.specs.Prelude.{slice_index}
-use Rattle.ea_hierarchy.specs.Waiting.{Appends, HandsOn, list_at}
-use Rattle.ea_hierarchy.proofs.Growing.{freed_grown, grown_more}
-use Rattle.ea_hierarchy.proofs.Listing.{appended_below, count_of, list_is, waits_at}
+use Rattle.std.proofs.lemmas.List.{get_or_append_left, get_or_push}
+use Rattle.ea_hierarchy.specs.Hierarchies.{IsParent}
+use Rattle.ea_hierarchy.specs.Waiting.{Appends, AreWaiting, higher_ends, lower_ends}
+use Rattle.ea_hierarchy.proofs.Growing.{above_more, made_more, parents_more}
+use Rattle.ea_hierarchy.proofs.Listing.{waits_among}
 use Rattle.ea_hierarchy.proofs.upward.make_arcs.Goals as goal
 
-pub append_once-requires-clause-some : goal.append_once-requires-clause-some
-append_once-requires-clause-some c = λ place inside.
-    let many = count_of (λ l. l.items) c.args.lists.now.items c.sort.new.lists.items c.sort.ensures.count in
-    let list = list_is (λ l. l.items) c.sort.new.lists.items c.args.rank c.index.result.now (omega (arith, many, c.requires.rank)) c.index.ensures in
-    let low = waits_at (length c.args.lists.now.items) (map (λ l. l.items) c.args.lists.now.items) (map (λ l. l.items) c.sort.new.lists.items) c.args.rank place c.deref.result.now c.requires.above c.sort.ensures (c.deref.ensures.value ∙ sym list) inside in
-    omega (arith, low, c.requires.ranks)
+pub lowest_head-parent-requires-clause-heads : goal.lowest_head-parent-requires-clause-heads
+lowest_head-parent-requires-clause-heads c =
+    let rank = c.args.rank in
+    let nodes = c.args.network.now.nodes in
+    let firsts = c.args.growing.now.upward.firsts.items in
+    let heads = c.args.growing.now.upward.heads.items in
+    let found = c.find_heads.new.found.items in
+    let grown = c.append_once.new.heads.items in
+    let last : c.len-2.result ≡ length grown = omega (arith, c.len-2.ensures) in
+    let pushed : c.push.new.self.items ≡ firsts ++ length grown ∷ [] = subst (λ n. c.push.new.self.items ≡ firsts ++ n ∷ []) last c.in_ok-push.ensures.items in
+    let appends : Appends found rank heads grown = subst (λ (xs : List ℕ). Appends xs rank heads grown) c.deref.ensures.value c.in_ok-append_once.ensures in
+    let above = above_more nodes rank firsts heads found grown c.requires.growing.above c.requires.rank c.in_ok-find_heads.ensures.below appends in
+    rw (c.deref-2.ensures.value, c.deref-3.ensures.value, pushed)
+    (λ some.
+    let up = above.upward rank (slice_index (firsts ++ length grown ∷ []) rank) (omega arith) (record { from = omega arith; before = some }) in
+    omega (arith, up.1, c.keeps_limits.ensures.nodes_limit))
 
-pub hand_on-requires : goal.hand_on-requires
-hand_on-requires c = λ some.
-    let many = count_of (λ l. l.items) c.args.lists.now.items c.sort.new.lists.items c.sort.ensures.count in
-    let list = list_is (λ l. l.items) c.sort.new.lists.items c.args.rank c.index.result.now (omega (arith, many, c.requires.rank)) c.index.ensures in
-    let grown : c.deref-2.result.now ≡ c.append_once.new.heads.items = c.deref-2.ensures.value in
-    let inside : c.len-first.result < length c.append_once.new.heads.items = subst (λ (xs : List ℕ). c.len-first.result < length xs) grown some in
-    let low = appended_below (length c.args.lists.now.items) (map (λ l. l.items) c.args.lists.now.items) (map (λ l. l.items) c.sort.new.lists.items) c.args.rank c.deref.result.now c.args.heads.now.items c.append_once.new.heads.items c.requires.above c.sort.ensures (c.deref.ensures.value ∙ sym list) c.in_ok-append_once.ensures (omega (arith, inside, c.len-first.ensures)) in
-    let first : c.len-first.result ≡ length c.args.heads.now.items = omega (arith, c.len-first.ensures) in
-    let at : slice_index c.deref-2.result.now c.len-first.result ≡ slice_index c.append_once.new.heads.items (length c.args.heads.now.items) = ap (λ (xs : List ℕ). slice_index xs c.len-first.result) grown ∙ ap (slice_index c.append_once.new.heads.items) first in
-    omega (arith, low, many, at)
+pub add-requires : goal.add-requires
+add-requires c = omega (arith, c.requires.growing.count, c.keeps_limits.ensures.nodes_limit)
 
-pub returns : goal.returns
-returns c = λ begin grown more.
-    let many = count_of (λ l. l.items) c.args.lists.now.items c.sort.new.lists.items c.sort.ensures.count in
-    let list = c.deref.ensures.value ∙ sym (list_is (λ l. l.items) c.sort.new.lists.items c.args.rank c.index.result.now (omega (arith, many, c.requires.rank)) c.index.ensures) in
-    let ordered : List (List ℕ) = map (λ l. l.items) c.sort.new.lists.items in
-    let after : List (List ℕ) = map (λ l. l.items) c.hand_on.new.lists.items in
-    let first : c.len-first.result ≡ length c.args.heads.now.items = omega (arith, c.len-first.ensures) in
-    let appends : Appends (list_at ordered c.args.rank) c.args.heads.now.items c.append_once.new.heads.items = subst (λ (xs : List ℕ). Appends xs c.args.heads.now.items c.append_once.new.heads.items) list c.in_ok-append_once.ensures in
-    let hands : HandsOn ordered after c.append_once.new.heads.items (length c.args.heads.now.items) = subst (λ n. HandsOn ordered after c.append_once.new.heads.items n) first (subst (λ (xs : List ℕ). HandsOn ordered after xs c.len-first.result) c.deref-2.ensures.value c.in_ok-hand_on.ensures) in
-    let last : c.len-2.result ≡ length c.append_once.new.heads.items = omega (arith, c.len-2.ensures) in
-    let nodes = length c.args.lists.now.items in
-    let more_arcs = grown_more (length c.args.lists.now.items) c.args.rank begin (map (λ l. l.items) c.args.lists.now.items) ordered after c.args.firsts.now.items c.args.heads.now.items c.append_once.new.heads.items grown c.requires.rank c.sort.ensures appends hands in
-    rw (c.in_ok-push.ensures.items, last) (freed_grown nodes (c.args.rank + 1) c.args.rank begin after (map (λ l. l.items) c.free_list.new.lists.items) (c.args.firsts.now.items ++ length c.append_once.new.heads.items ∷ []) c.append_once.new.heads.items (omega arith) more_arcs c.free_list.ensures)
+pub returns-clause-growing : goal.returns-clause-growing
+returns-clause-growing c = λ more.
+    let rank = c.args.rank in
+    let nodes = c.args.network.now.nodes in
+    let firsts = c.args.growing.now.upward.firsts.items in
+    let heads = c.args.growing.now.upward.heads.items in
+    let parents = c.args.growing.now.upward.parents.items in
+    let earlier = c.args.growing.now.children.earlier.items in
+    let found = c.find_heads.new.found.items in
+    let grown = c.append_once.new.heads.items in
+    let parent = c.lowest_head-parent.result in
+    let last : c.len-2.result ≡ length grown = omega (arith, c.len-2.ensures) in
+    let pushed : c.push.new.self.items ≡ firsts ++ length grown ∷ [] = subst (λ n. c.push.new.self.items ≡ firsts ++ n ∷ []) last c.in_ok-push.ensures.items in
+    let appends : Appends found rank heads grown = subst (λ (xs : List ℕ). Appends xs rank heads grown) c.deref.ensures.value c.in_ok-append_once.ensures in
+    let above = above_more nodes rank firsts heads found grown c.requires.growing.above c.requires.rank c.in_ok-find_heads.ensures.below appends in
+    let count : length parents ≡ rank = omega (arith, c.requires.growing.parents.count, c.requires.growing.above.count) in
+    let is_parent : IsParent (firsts ++ length grown ∷ []) grown rank parent = subst (λ (xs : List ℕ). IsParent xs grown rank parent) (c.deref-2.ensures.value ∙ pushed) (subst (λ (xs : List ℕ). IsParent c.deref-2.result.now xs rank parent) c.deref-3.ensures.value c.lowest_head-parent.ensures) in
+    let are_parents = parents_more nodes rank firsts heads found grown c.requires.growing.above c.requires.rank c.in_ok-find_heads.ensures.below appends parents c.requires.growing.parents parent is_parent in
+    let waiting : AreWaiting (parents ++ parent ∷ []) c.args.growing.now.children.newest.items earlier =
+    waits_among parents (parents ++ parent ∷ []) c.args.growing.now.children.newest.items earlier (λ place inside. get_or_append_left parents (parent ∷ []) 0 place (omega (arith, inside, count, c.requires.growing.count))) c.requires.growing.waiting in
+    let at : slice_index (parents ++ parent ∷ []) (length earlier) ≡ parent = get_or_push parents parent 0 (length earlier) (omega (arith, count, c.requires.growing.count)) in
+    record {
+      above = rw pushed above;
+      parents = rw (pushed, c.in_ok-push-2.ensures.items) are_parents;
+      room = c.in_ok-add.ensures.ranks ∙ c.requires.growing.room;
+      count = omega (arith, c.in_ok-add.ensures.count, c.requires.growing.count);
+      waiting = rw c.in_ok-push-2.ensures.items (c.in_ok-add.ensures.waiting (parents ++ parent ∷ []) waiting at);
+    }
+
+pub returns-clause-made : goal.returns-clause-made
+returns-clause-made c = λ more.
+    let rank = c.args.rank in
+    let roads = c.args.network.now in
+    let ranks = c.args.ranks.now in
+    let firsts = c.args.growing.now.upward.firsts.items in
+    let heads = c.args.growing.now.upward.heads.items in
+    let parents = c.args.growing.now.upward.parents.items in
+    let found = c.find_heads.new.found.items in
+    let grown = c.append_once.new.heads.items in
+    let last : c.len-2.result ≡ length grown = omega (arith, c.len-2.ensures) in
+    let pushed : c.push.new.self.items ≡ firsts ++ length grown ∷ [] = subst (λ n. c.push.new.self.items ≡ firsts ++ n ∷ []) last c.in_ok-push.ensures.items in
+    let appends : Appends found rank heads grown = subst (λ (xs : List ℕ). Appends xs rank heads grown) c.deref.ensures.value c.in_ok-append_once.ensures in
+    rw pushed
+    (made_more roads.nodes rank firsts heads found grown c.requires.growing.above c.requires.rank c.in_ok-find_heads.ensures.below appends parents c.requires.growing.parents
+    (lower_ends ranks roads.arcs) (higher_ends ranks roads.arcs) c.requires.made c.in_ok-find_heads.ensures.arcs c.in_ok-find_heads.ensures.children)

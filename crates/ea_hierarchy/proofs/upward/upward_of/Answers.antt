@@ -1,36 +1,37 @@
-use Rattle.std.proofs.Common.{arith, length, map, sym, subst, ◌-◌, ◌≡◌, ◌+◌, ◌∙◌, ℕ, List}
-use Rattle.std.proofs.lemmas.List.{length-map}
-use Rattle.ea_hierarchy.specs.Growth.{IsGrown}
+use Rattle.std.proofs.Common.{arith, length, subst, ◌-◌, ◌≡◌}
+use Rattle.ea_hierarchy.specs.Growth.{AreAbove, AreMade}
 use Rattle.ea_hierarchy.specs.Hierarchies.{IsUpward}
-use Rattle.ea_hierarchy.proofs.Growing.{all_made}
-use Rattle.ea_hierarchy.proofs.Listing.{above_of}
+use Rattle.ea_hierarchy.specs.Waiting.{higher_ends, lower_ends}
+use Rattle.ea_hierarchy.proofs.Growing.{all_joined, all_upward}
 use Rattle.ea_hierarchy.proofs.upward.upward_of.Goals as goal
 
-pub make_arcs-requires-clause-above : goal.make_arcs-requires-clause-above
-make_arcs-requires-clause-above c =
-    above_of (length c.args.lists.items) (length c.loop-rank.lists.items) (map (λ l. l.items) c.loop-rank.lists.items) (sym (length-map c.loop-rank.lists.items (λ l. l.items)) ∙ c.loop-rank.invariant.ranks) c.loop-rank.invariant.above
+pub returns-clause-upward : goal.returns-clause-upward
+returns-clause-upward c =
+    let roads = c.args.network.now in
+    let ranks = c.args.ranks.now in
+    let it = c.loop-rank.growing.upward in
+    let end : c.loop-rank.rank ≡ roads.nodes = omega (arith, c.nodes-nodes.ensures.nodes) in
+    let above = subst (λ n. AreAbove roads.nodes n it.firsts.items it.heads.items) end c.loop-rank.invariant.growing.above in
+    let made = subst (λ n. AreMade n (lower_ends ranks roads.arcs) (higher_ends ranks roads.arcs) it.firsts.items it.heads.items) end c.loop-rank.invariant.made in
+    let count : roads.nodes ≡ length it.firsts.items - 1 = omega (arith, above.count) in
+    subst (λ n. IsUpward n it.firsts.items it.heads.items) count (all_upward roads.nodes (lower_ends ranks roads.arcs) (higher_ends ranks roads.arcs) it.firsts.items it.heads.items above made)
 
-pub loop-rank-preserved : goal.loop-rank-preserved
-loop-rank-preserved c =
-    let begin : List (List ℕ) = map (λ x. x.items) c.args.lists.items in
-    let same : length c.loop-rank.lists.items ≡ length c.args.lists.items = sym (length-map c.loop-rank.lists.items (λ l. l.items)) ∙ c.loop-rank.invariant.ranks in
-    let before = subst (λ n. IsGrown n c.loop-rank.rank begin (map (λ x. x.items) c.loop-rank.lists.items) c.loop-rank.firsts.items c.loop-rank.heads.items) (sym same) c.loop-rank.invariant in
-    subst (λ n. IsGrown n (c.loop-rank.rank + 1) begin (map (λ x. x.items) c.make_arcs.new.lists.items) c.make_arcs.new.firsts.items c.make_arcs.new.heads.items) same (c.in_ok-make_arcs.ensures begin before c.if-not-branch.false)
+pub distances_of-requires-clause-upward : goal.distances_of-requires-clause-upward
+distances_of-requires-clause-upward c =
+    let roads = c.args.network.now in
+    let ranks = c.args.ranks.now in
+    let it = c.loop-rank.growing.upward in
+    let end : c.loop-rank.rank ≡ roads.nodes = omega (arith, c.nodes-nodes.ensures.nodes) in
+    let above = subst (λ n. AreAbove roads.nodes n it.firsts.items it.heads.items) end c.loop-rank.invariant.growing.above in
+    let made = subst (λ n. AreMade n (lower_ends ranks roads.arcs) (higher_ends ranks roads.arcs) it.firsts.items it.heads.items) end c.loop-rank.invariant.made in
+    let count : roads.nodes ≡ length it.firsts.items - 1 = omega (arith, above.count) in
+    rw (c.deref.ensures.value, c.deref-2.ensures.value) (subst (λ n. IsUpward n it.firsts.items it.heads.items) count (all_upward roads.nodes (lower_ends ranks roads.arcs) (higher_ends ranks roads.arcs) it.firsts.items it.heads.items above made))
 
-pub parents_of-requires-clause-upward : goal.parents_of-requires-clause-upward
-parents_of-requires-clause-upward c =
-    let begin : List (List ℕ) = map (λ x. x.items) c.args.lists.items in
-    let many : length begin ≡ length c.args.lists.items = length-map c.args.lists.items (λ l. l.items) in
-    let end : c.loop-rank.rank ≡ length c.args.lists.items = omega arith in
-    let grown = subst (λ n. IsGrown (length c.args.lists.items) n begin (map (λ x. x.items) c.loop-rank.lists.items) c.loop-rank.firsts.items c.loop-rank.heads.items) end c.loop-rank.invariant in
-    let made = all_made (length c.args.lists.items) begin (map (λ x. x.items) c.loop-rank.lists.items) c.loop-rank.firsts.items c.loop-rank.heads.items grown (sym many) c.requires.above in
-    let size : length begin ≡ length c.loop-rank.firsts.items - 1 = omega (arith, made.upward.count) in
-    rw (c.deref.ensures.value, c.deref-2.ensures.value) (subst (λ n. IsUpward n c.loop-rank.firsts.items c.loop-rank.heads.items) size made.upward)
-
-pub returns-clause-made : goal.returns-clause-made
-returns-clause-made c =
-    let begin : List (List ℕ) = map (λ x. x.items) c.args.lists.items in
-    let many : length begin ≡ length c.args.lists.items = length-map c.args.lists.items (λ l. l.items) in
-    let end : c.loop-rank.rank ≡ length c.args.lists.items = omega arith in
-    let grown = subst (λ n. IsGrown (length c.args.lists.items) n begin (map (λ x. x.items) c.loop-rank.lists.items) c.loop-rank.firsts.items c.loop-rank.heads.items) end c.loop-rank.invariant in
-    all_made (length c.args.lists.items) begin (map (λ x. x.items) c.loop-rank.lists.items) c.loop-rank.firsts.items c.loop-rank.heads.items grown (sym many) c.requires.above
+pub returns-clause-joined : goal.returns-clause-joined
+returns-clause-joined c =
+    let roads = c.args.network.now in
+    let ranks = c.args.ranks.now in
+    let it = c.loop-rank.growing.upward in
+    let end : c.loop-rank.rank ≡ roads.nodes = omega (arith, c.nodes-nodes.ensures.nodes) in
+    let made = subst (λ n. AreMade n (lower_ends ranks roads.arcs) (higher_ends ranks roads.arcs) it.firsts.items it.heads.items) end c.loop-rank.invariant.made in
+    all_joined roads ranks it.firsts.items it.heads.items c.requires c.nodes-nodes.ensures.network made

@@ -1,7 +1,6 @@
-use Rattle.std.proofs.Common.{arith, rules, subst, sym, ◌∙◌}
-use Rattle.std.specs.Prelude.{slice_index}
-use Rattle.ea_hierarchy.specs.Hierarchies.{IsFrom, IsLowest}
-use Rattle.ea_hierarchy.proofs.Finding.{read_at}
+use Rattle.std.proofs.Common.{rules, length, ◌-◌}
+use Rattle.ea_hierarchy.specs.Hierarchies.{IsLowest}
+use Rattle.ea_hierarchy.proofs.Finding.{lowest_up}
 use Rattle.ea_hierarchy.proofs.Paths.{climbs_more, top_ends}
 use Rattle.ea_hierarchy.proofs.cells.Cells.climb.Goals as goal
 
@@ -11,8 +10,7 @@ returns-then-parent-clause-top c =
     let heads = c.args.upward.now.heads.items in
     let at = c.loop-path.at in
     let climbs = c.loop-path.invariant.climbs in
-    let read = read_at c.args.upward.now.parents.items at c.index-parent.result.now (omega (arith, climbs.below, c.requires.parents.count)) c.index-parent.ensures in
-    let none = (c.requires.parents.each at climbs.below).none (read ∙ c.if-parent.true) in
+    let none = c.parent-parent.ensures.none c.if-parent.true in
     rw c.push_reserved.ensures.items (top_ends firsts heads c.loop-path.path.items c.args.rank at climbs c.args.self.now.aim c.args.self.now.list.items none)
 
 pub loop-path-preserved : goal.loop-path-preserved
@@ -20,13 +18,11 @@ loop-path-preserved c =
     let firsts = c.args.upward.now.firsts.items in
     let heads = c.args.upward.now.heads.items in
     let at = c.loop-path.at in
-    let parent = c.index-parent.result.now in
+    let parent = c.parent-parent.result in
     let climbs = c.loop-path.invariant.climbs in
-    let read = read_at c.args.upward.now.parents.items at parent (omega (arith, climbs.below, c.requires.parents.count)) c.index-parent.ensures in
-    let lowest : IsLowest firsts heads at parent = subst (λ n. IsLowest firsts heads at n) read ((c.requires.parents.each at climbs.below).lowest (λ same. c.if-parent.false (sym read ∙ same))) in
-    let first : IsFrom firsts at (slice_index firsts at) = record { from = omega arith; before = lowest.some } in
-    let up = c.requires.upward.upward at (slice_index firsts at) climbs.below first in
+    let lowest : IsLowest firsts heads at parent = c.parent-parent.ensures.lowest c.if-parent.false in
+    let up = lowest_up (length firsts - 1) firsts heads c.requires.upward at parent climbs.below lowest in
     record {
       room = search rules;
-      climbs = rw c.push_reserved.ensures.items (climbs_more firsts heads c.loop-path.path.items c.args.rank at climbs parent lowest (omega (arith, up.0, lowest.is)) (omega (arith, up.1, lowest.is)));
+      climbs = rw c.push_reserved.ensures.items (climbs_more firsts heads c.loop-path.path.items c.args.rank at climbs parent lowest up.0 up.1);
     }
