@@ -5,3 +5,4 @@ pub mod Going
 pub mod Held
 pub mod Sent
 pub mod Showing
+pub mod Laying

@@ -7,3 +7,4 @@ pub mod Sending
 pub mod Sent
 pub mod Shown
 pub mod Solved
+pub mod SearchRoads

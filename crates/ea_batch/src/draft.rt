@@ -8,10 +8,10 @@ ghost use Rattle.ea_batch.specs.Solved.{Serves};
 ghost use Rattle.ea_report.specs.Asked.{shape_of};
 
 use crate::one_search::search;
+use crate::search_road::SearchRoad;
 use crate::searching::{Aids, Searching};
 use crate::sheet::Sheet;
 use crossbeam_deque::{Steal, Stealer, Worker};
-use ea_load::Road;
 use ea_report::{ReportOptions, write_problem};
 use ea_road::Query;
 use std::alloc::{AllocError, Global};
@@ -44,7 +44,7 @@ pub(crate) struct Plan {
 #[derive(Clone, Copy)]
 pub(crate) struct Job<'a> {
     pub alloc: Global,
-    pub road: &'a Road,
+    pub road: &'a SearchRoad<'a>,
     /// What searches may use.
     pub aids: Aids<'a>,
     pub queries: &'a [Query],
@@ -98,7 +98,7 @@ fn make_draft(job: Job<'_>, query: &Query, last: &mut Option<Searching>) -> Draf
     let mut sheet = Sheet::over(take_memory(job), plan.most);
     match write_problem(
         alloc,
-        &road.network,
+        road.network(),
         query,
         found.answer(),
         shown,

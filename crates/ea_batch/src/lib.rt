@@ -8,9 +8,11 @@ mod one_search;
 mod parallel_reports;
 mod progress;
 mod round;
+mod search_road;
 mod searching;
 mod sheet;
 
 pub use parallel_reports::{Watched, report_ahead};
 pub use progress::Progress;
+pub use search_road::{SearchNetwork, SearchRoad};
 pub use searching::{Aids, Searching, few_chosen};

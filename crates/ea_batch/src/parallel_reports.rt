@@ -14,12 +14,13 @@ use crate::hand_over::Asks;
 use crate::lane::{Desk, Lane, Lanes, make_in_lane};
 use crate::progress::{Progress, fault_after};
 use crate::round::Round;
+use crate::search_road::SearchRoad;
 use crate::searching::Aids;
 use crossbeam_deque::Worker;
 use ea_base::Watch;
 use ea_bytes::ByteOut;
 use ea_fork_join::for_each_chunk_mut_beside;
-use ea_load::{AnswerFault, Road};
+use ea_load::AnswerFault;
 use ea_report::{ReportOptions, write_pieces};
 use ea_road::Query;
 use std::alloc::Global;
@@ -113,7 +114,7 @@ impl Progress<'_> {
     fn send_draft<W: ByteOut>(
         &mut self,
         alloc: Global,
-        road: &Road,
+        road: &SearchRoad<'_>,
         query: &Query,
         shown: ReportOptions<'_>,
         draft: Draft,
@@ -234,14 +235,14 @@ fn send_round<J: Asks, W: ByteOut, V: Watch>(
 }
 
 /// About how many lines a report has.
-fn lines_of(road: &Road, query: &Query, shown: ReportOptions<'_>) -> usize
+fn lines_of(road: &SearchRoad<'_>, query: &Query, shown: ReportOptions<'_>) -> usize
     ensures { 1 ≤ result }
 {
     if query.target().is_some() {
         return 1;
     }
     match shown.nodes {
-        None => road.network.nodes().max(1) as usize,
+        None => road.nodes().max(1) as usize,
         Some(chosen) => chosen.len().max(1),
     }
 }
@@ -358,7 +359,7 @@ fn report_asked<'a, J: Asks, H: Threads + Sync, W: ByteOut, V: Watch>(
 pub fn report_ahead<'a, H: Threads + Sync, W: ByteOut, V: Watch>(
     alloc: Global,
     rt: &H,
-    road: &Road,
+    road: &SearchRoad<'_>,
     queries: &[Query],
     watched: Watched<'a, V>,
     threads: usize,

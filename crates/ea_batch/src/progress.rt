@@ -9,10 +9,11 @@ ghost use Rattle.ea_batch.specs.Solved.{Solves};
 ghost use Rattle.ea_report.specs.Asked.{chosen_by, shape_of};
 
 use crate::one_search::search;
+use crate::search_road::SearchRoad;
 use crate::searching::{Aids, Searching};
 use crossbeam_deque::Worker;
 use ea_bytes::ByteOut;
-use ea_load::{AnswerFault, Road};
+use ea_load::AnswerFault;
 use ea_paths::Answer;
 use ea_report::{ReportOptions, WriteFault, WriteFaultKind, write_problem};
 use ea_road::Query;
@@ -62,7 +63,7 @@ impl Progress<'_> {
     pub fn write<W: ByteOut>(
         &mut self,
         alloc: Global,
-        road: &Road,
+        road: &SearchRoad<'_>,
         query: &Query,
         answer: &Answer,
         shown: ReportOptions<'_>,
@@ -75,7 +76,7 @@ impl Progress<'_> {
             (W.seen out.old) (W.seen out.new) self.old.written self.new.written result }
         ensures kept { KeepsArrays self.old self.new }
     {
-        match write_problem(alloc, &road.network, query, answer, shown, out) {
+        match write_problem(alloc, road.network(), query, answer, shown, out) {
             Ok(written) => {
                 self.written += written;
                 Ok(())
@@ -95,7 +96,7 @@ impl Progress<'_> {
     pub fn report_alone<W: ByteOut>(
         &mut self,
         alloc: Global,
-        road: &Road,
+        road: &SearchRoad<'_>,
         query: &Query,
         shown: ReportOptions<'_>,
         out: &mut W,

@@ -4,3 +4,4 @@ pub mod Places
 pub mod Renaming
 pub mod RenamedLevels
 pub mod Walking
+pub mod Told

@@ -33,3 +33,7 @@ AreAllPlaced places = (node : ℕ) → IsNode (length places) node → number_of
 pub record LaysOut (roads : Roads) (layout : Layout) : Type 0 where
   pub reverse : AreReverse roads.nodes layout.places.items layout.nodes.items
   pub network : layout.network ≡ renamed_roads layout.places.items roads
+
+-- The network that a layout is of, under its own numbers: the layout's, renamed back.
+abbrev pub file_roads : Layout → Roads
+file_roads layout = renamed_roads layout.nodes.items layout.network

@@ -2,6 +2,7 @@
 ghost use Rattle.std.specs.Prelude.{◌≡◌, IfOk, length, true, false, if◌then◌else◌};
 ghost use Rattle.ea_layout.specs.Copied.{AsksFor};
 ghost use Rattle.ea_layout.specs.Laid.{CanFindLaid, IsPreparedLaid};
+ghost use Rattle.ea_layout.specs.Orders.{file_roads};
 ghost use Rattle.ea_paths.specs.Searches.{CanFind, HasFound, HasFoundArrivals, HasFoundWalks};
 ghost use Rattle.ea_search.specs.Answers.{HasArrivals, IsAnswer};
 
@@ -130,18 +131,17 @@ impl LaidSearch {
     fn arrivals<T: TravelTimes>(
         self,
         alloc: Global,
-        network: &Network,
         layout: &Layout,
         times: &T,
         query: &Query,
         laid: &Query,
     ) -> LaidSearch
-        requires can { CanFindLaid network.now (T.answers times.now) layout.now (T.classes times.now)
-            query.now self }
+        requires can { CanFindLaid (file_roads layout.now) (T.answers times.now) layout.now
+            (T.classes times.now) query.now self }
         requires asks { AsksFor layout.now.places.items query.now laid.now }
-        ensures { HasFoundArrivals network.now (T.answers times.now) query.now self result }
+        ensures { HasFoundArrivals (file_roads layout.now) (T.answers times.now) query.now self result }
     {
-        network.keeps_limits();
+        layout.network.keeps_limits();
         let LaidSearch {
             search,
             answer,
@@ -164,7 +164,7 @@ impl LaidSearch {
         } = written;
         LaidSearch {
             search,
-            answer: Answer::new(network.nodes(), query.target(), labels, links, false),
+            answer: Answer::new(layout.network.nodes(), query.target(), labels, links, false),
             listed,
             has_walks,
             is_laid: true,
@@ -175,19 +175,18 @@ impl LaidSearch {
     fn walks<T: TravelTimes>(
         self,
         alloc: Global,
-        network: &Network,
         layout: &Layout,
         times: &T,
         query: &Query,
         laid: &Query,
     ) -> LaidSearch
-        requires can { CanFindLaid network.now (T.answers times.now) layout.now (T.classes times.now)
-            query.now self }
+        requires can { CanFindLaid (file_roads layout.now) (T.answers times.now) layout.now
+            (T.classes times.now) query.now self }
         requires asks { AsksFor layout.now.places.items query.now laid.now }
         requires walks { self.walks ≡ true }
-        ensures { HasFoundWalks network.now (T.answers times.now) query.now self.nodes result }
+        ensures { HasFoundWalks (file_roads layout.now) (T.answers times.now) query.now self.nodes result }
     {
-        network.keeps_limits();
+        layout.network.keeps_limits();
         let LaidSearch {
             search,
             answer,
@@ -211,7 +210,7 @@ impl LaidSearch {
         } = written;
         LaidSearch {
             search,
-            answer: Answer::new(network.nodes(), query.target(), labels, links, true),
+            answer: Answer::new(layout.network.nodes(), query.target(), labels, links, true),
             listed,
             has_walks,
             is_laid: true,
@@ -260,10 +259,11 @@ impl LaidSearch {
         requires asks { AsksFor layout.now.places.items query.now laid.now }
         ensures { HasFound network.now (T.answers times.now) query.now self result }
     {
+        network.keeps_limits();
         if self.has_walks {
-            self.walks(alloc, network, layout, times, query, laid)
+            self.walks(alloc, layout, times, query, laid)
         } else {
-            self.arrivals(alloc, network, layout, times, query, laid)
+            self.arrivals(alloc, layout, times, query, laid)
         }
     }
 
@@ -311,45 +311,44 @@ impl LaidSearch {
         }
     }
 
-    /// Answers a query without walks; for a target it is led by the layout's preparation, if it has one. The search is consumed and returned
-    /// with its answer. An error comes only if memory for the sources of a query with several was refused.
+    /// Answers a query on the network of a layout, in its own numbers and without walks; for a target it is led by the layout's preparation, if
+    /// it has one. The search is consumed and returned with its answer. An error comes only if memory for the sources of a query with
+    /// several was refused.
     pub fn find_arrivals<T: TravelTimes>(
         self,
         alloc: Global,
-        network: &Network,
         layout: &Layout,
         times: &T,
         query: &Query,
     ) -> Result<LaidSearch, AllocError>
-        requires { CanFindLaid network.now (T.answers times.now) layout.now (T.classes times.now)
-            query.now self }
+        requires { CanFindLaid (file_roads layout.now) (T.answers times.now) layout.now
+            (T.classes times.now) query.now self }
         ensures arrivals { IfOk result (λ laid.
-            HasArrivals network.now (T.answers times.now) query.now laid.answer) }
+            HasArrivals (file_roads layout.now) (T.answers times.now) query.now laid.answer) }
         ensures none { IfOk result (λ laid. laid.answer.walks ≡ false) }
         ensures room { IfOk result (λ laid.
             (laid.nodes ≡ self.nodes) × (laid.walks ≡ self.walks)) }
     {
         let laid = laid_query(alloc, &layout.places, query)?;
-        Ok(self.arrivals(alloc, network, layout, times, query, &laid))
+        Ok(self.arrivals(alloc, layout, times, query, &laid))
     }
 
     /// Answers a query with its canonical walks. Else like `find_arrivals`.
     pub fn find_walks<T: TravelTimes>(
         self,
         alloc: Global,
-        network: &Network,
         layout: &Layout,
         times: &T,
         query: &Query,
     ) -> Result<LaidSearch, AllocError>
-        requires can { CanFindLaid network.now (T.answers times.now) layout.now (T.classes times.now)
-            query.now self }
+        requires can { CanFindLaid (file_roads layout.now) (T.answers times.now) layout.now
+            (T.classes times.now) query.now self }
         requires walks { self.walks ≡ true }
         ensures answer { IfOk result (λ laid.
-            IsAnswer network.now (T.answers times.now) query.now laid.answer) }
+            IsAnswer (file_roads layout.now) (T.answers times.now) query.now laid.answer) }
         ensures room { IfOk result (λ laid. (laid.nodes ≡ self.nodes) × (laid.walks ≡ true)) }
     {
         let laid = laid_query(alloc, &layout.places, query)?;
-        Ok(self.walks(alloc, network, layout, times, query, &laid))
+        Ok(self.walks(alloc, layout, times, query, &laid))
     }
 }

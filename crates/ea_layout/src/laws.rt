@@ -1,12 +1,23 @@
 //! Laws of other numbers for the nodes of a network, as functions that do nothing.
-ghost use Rattle.std.specs.Prelude.{◌↔◌, ℕ, List, Option};
+ghost use Rattle.std.specs.Prelude.{◌↔◌, ◌≡◌, ℕ, List, Option};
+ghost use Rattle.ea_layout.specs.Orders.{LaysOut, file_roads};
 ghost use Rattle.ea_layout.specs.Renamed.{AreReverse, number_of, renamed_query, renamed_roads, renamed_sources};
 ghost use Rattle.ea_road.specs.Arrivals.{IsLeast, IsLeastAt};
 ghost use Rattle.ea_road.specs.Levels.{IsCanonical, IsLevel};
 ghost use Rattle.ea_road.specs.Queries.{IsProblem};
 ghost use Rattle.ea_road.specs.Roads.{IsNetwork, IsNode};
 
+use crate::layout::Layout;
 use ea_road::{Network, Query, TravelTimes};
+
+/// A layout is of one network: its own, renamed back.
+pub fn a_layout_is_of_one_network(network: &Network, layout: &Layout)
+    requires { LaysOut network.now layout.now }
+    ensures { file_roads layout.now ≡ network.now }
+{
+    network.keeps_limits();
+    let _ = &layout.network;
+}
 
 /// A network whose nodes have other numbers is a network, and a problem on it stays one.
 pub fn renamed_problems_are_problems<T: TravelTimes>(

@@ -4,9 +4,9 @@ ghost use Rattle.ea_hierarchy.specs.Preparations.{IsPreparedFor};
 ghost use Rattle.ea_hierarchy.specs.Orders.{IsOrder};
 ghost use Rattle.ea_hierarchy.specs.declared.unprepared.Unprepared.TheVariants.{NoOrder};
 ghost use Rattle.ea_layout.specs.Laid.{IsPattern, IsPreparedLaid};
-ghost use Rattle.ea_layout.specs.Orders.{AreAllPlaced, LaysOut};
+ghost use Rattle.ea_layout.specs.Orders.{AreAllPlaced, LaysOut, file_roads};
 ghost use Rattle.ea_layout.specs.Renamed.{renamed_arc};
-ghost use Rattle.ea_road.specs.Roads.{IsNode, top_class};
+ghost use Rattle.ea_road.specs.Roads.{IsNode, Roads, top_class};
 
 use crate::clusters::in_clusters;
 use crate::given_order::in_order;
@@ -176,6 +176,34 @@ impl Layout {
         }
         let order = in_order(alloc, network, list)?;
         Layout::prepare_in(alloc, network, times, order)
+    }
+
+    /// A network in an order of elimination, as from `prepare`, but not prepared yet: so the network itself may be dropped before more memory is
+    /// taken. `NotWorth` and `OutOfMemory` come as from `prepare`.
+    pub fn by_elimination(alloc: Global, network: &Network) -> Result<Layout, Unprepared>
+        ensures laid_out { IfOk result (λ layout. LaysOut network.now layout) }
+        ensures none { IfOk result (λ layout. layout.prepared ≡ None) }
+        ensures refused { IfErr result (λ why. why ≡ NoOrder → ⊥) }
+    {
+        let list = elimination_order(alloc, network)?;
+        let order = in_order(alloc, network, &list)?;
+        drop(list);
+        Ok(Layout::by(alloc, network, order)?)
+    }
+
+    /// The same layout, prepared for pairs over the order of its numbers; as it is, if there are too many upward arcs or triangles for the
+    /// network's size, or if memory is refused.
+    pub fn prepared_if_worth<T: TravelTimes>(self, alloc: Global, times: &T) -> Layout
+        requires classes { top_class self.network.arcs ≤ T.classes times.now }
+        requires none { self.prepared ≡ None }
+        ensures laid_out { (roads : Roads) → LaysOut roads self → LaysOut roads result }
+        ensures same { file_roads result ≡ file_roads self }
+        ensures prepared { IsPreparedLaid (T.answers times.now) result }
+    {
+        match Prepared::by_numbers(alloc, &self.network, times) {
+            Ok(prepared) => self.with(prepared),
+            Err(_) => self,
+        }
     }
 
     /// A network in an order of all its nodes, prepared for pairs over it.

@@ -5,3 +5,4 @@ pub mod Sending
 pub mod Verdicts
 pub mod OneReport
 pub mod Agreeing
+pub mod RunRoads

@@ -1,6 +1,6 @@
 -- Which search a problem gets, by what was asked, the number of processors, and the size. No
 -- byte of a report depends on it; its time does.
-use Rattle.std.specs.Prelude.{◌≡◌, ◌≤◌, ℕ, true, ◌*◌, ◌^◌, ◌/◌, ◌-◌, Bool, IfSome, List, Option, Some, None, min, max, if◌then◌else◌, is_some, nat_le, nat_lt, ◌==◌, ◌&&◌, ◌||◌, not, unwrap_or}
+use Rattle.std.specs.Prelude.{◌≡◌, ◌<◌, ◌≤◌, ℕ, true, false, length, ◌*◌, ◌^◌, ◌/◌, ◌-◌, Bool, IfSome, List, Option, Some, None, min, max, if◌then◌else◌, is_some, nat_le, nat_lt, ◌==◌, ◌&&◌, ◌||◌, not, unwrap_or}
 use Rattle.ea_base.specs.declared.limits.TheConstants.{MOST_AT_ONCE, MOST_TURNS, MOST_WORKERS}
 use Rattle.ea_engine.specs.Limits.{AreSettings}
 use Rattle.ea_engine.specs.declared.settings.Settings.{Settings}
@@ -96,6 +96,11 @@ pub record AreSettingsFor (options : RunOptions) (workers : ℕ) (settings : Set
   pub workers_are : settings.workers ≡ workers
   pub asked : options.stats ≡ true → settings ≡ settings_with options workers
   pub chosen : settings ≡ settings_for options workers
+
+-- There are problems, and no workers and no statistics are asked for, so a road may be renumbered for them.
+pub record CanRenumber (queries : List Asking) (options : RunOptions) : Type 0 where
+  pub some : 0 < length queries
+  pub alone : asks_for_workers options ≡ false
 
 -- Several threads search problems at the same time, each by itself.
 abbrev pub goes_ahead : RunOptions → ℕ → ℕ → Bool

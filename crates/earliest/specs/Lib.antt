@@ -9,3 +9,4 @@ pub mod SameBytes
 pub mod Performed
 pub mod Worked
 pub mod Workers
+pub mod RunRoads

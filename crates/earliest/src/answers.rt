@@ -10,14 +10,15 @@ ghost use Rattle.ea_report.specs.Asked.{shape_of};
 ghost use Rattle.earliest.specs.Fronts.{shape_by};
 ghost use Rattle.earliest.specs.Runs.{AnswersOrFails, pair_asks, plan_by, run_asks};
 
-use crate::preparing::{layout_for, prepared_for};
+use crate::preparing::{layout_for, road_for_pairs};
 use crate::reports::report_all;
+use crate::run_road::RunRoad;
 use ea_base::{Silent, Watch};
 use ea_batch::{Aids, Watched, few_chosen};
 use ea_bytes::{ByteIn, ByteOut};
 use ea_load::{
-    AnswerFault, ExtraLists, OptionalFiles, Schedule, departures_fit, pair_queries, read_extras,
-    read_pairs, read_run_by, run_queries,
+    AnswerFault, ExtraLists, OptionalFiles, PairFiles, Schedule, departures_fit, pair_queries,
+    read_extras, read_pairs, read_run_by, run_queries,
 };
 use ea_options::RunOptions;
 use ea_report::{ReportOptions, Style, Totals};
@@ -142,7 +143,8 @@ pub(crate) fn answer_watched<
         layout: layout.as_ref(),
     };
     let watched = Watched { shown, aids, watch };
-    let answered = report_all(alloc, rt, &files.road, &queries, options, watched, out);
+    let road = RunRoad::AsRead(&files.road);
+    let answered = report_all(alloc, rt, road, &queries, options, watched, out);
     drop((files, extras, queries, layout));
     answered
 }
@@ -219,12 +221,14 @@ pub(crate) fn pairs_watched<
         }
     };
     let shown = shown_by(options, &extras);
-    let layout = prepared_for(alloc, rt, &files.road, &queries, options, watch);
-    let aids = Aids {
-        layout: layout.as_ref(),
+    let PairFiles { road, pairs } = files;
+    let road = road_for_pairs(alloc, rt, road, &queries, options, watch);
+    let watched = Watched {
+        shown,
+        aids: Aids { layout: None },
+        watch,
     };
-    let watched = Watched { shown, aids, watch };
-    let answered = report_all(alloc, rt, &files.road, &queries, options, watched, out);
-    drop((files, extras, queries, layout));
+    let answered = report_all(alloc, rt, road.as_run(), &queries, options, watched, out);
+    drop((road, pairs, extras, queries));
     answered
 }

@@ -8,6 +8,7 @@ mod commands;
 pub mod laws;
 mod preparing;
 mod reports;
+mod run_road;
 mod solver_choice;
 mod totals;
 

@@ -1,10 +1,14 @@
 //! What is made of a road before it is searched: a layout for many problems, a prepared one for pairs.
-ghost use Rattle.std.specs.Prelude.{◌≡◌, ◌<◌, IfSome};
+ghost use Rattle.std.specs.Prelude.{◌≡◌, ◌≤◌, IfSome, None, length, true};
 ghost use Rattle.ea_load.specs.Posed.{AreProblems, IsPosed};
 ghost use Rattle.ea_options.specs.Limits.{AreOptions};
 ghost use Rattle.ea_batch.specs.Solved.{IsLaidOut};
-ghost use Rattle.earliest.specs.Choices.{CanPrepare, are_many, pays_for};
+ghost use Rattle.ea_layout.specs.Orders.{LaysOut};
+ghost use Rattle.ea_road.specs.Roads.{top_class};
+ghost use Rattle.earliest.specs.Choices.{CanPrepare, CanRenumber, are_many, pays_for};
+ghost use Rattle.earliest.specs.RunRoads.{CanPrepareLaid, CanRunOn, IsPreparedIn, IsRenumberedOf, HoldsRoad};
 
+use crate::run_road::{PairRoad, RenumberedRoad};
 use crate::solver_choice::{asks_for_workers, goes_ahead, threads_at_once, workers_of};
 use ea_base::{Direction, Watch};
 use ea_layout::Layout;
@@ -12,7 +16,7 @@ use ea_load::Road;
 use ea_options::RunOptions;
 use ea_road::Query;
 use ea_search::count_offers;
-use ea_travel_times::Turned;
+use ea_travel_times::{RoadTimes, Turned};
 use std::alloc::Global;
 use std::thread::Threads;
 
@@ -79,59 +83,82 @@ fn is_worth<H: Threads>(
     }
 }
 
-/// A prepared layout of a road that is turned round, if it can be made: of the turned travel times, whose least ones are those
-/// of the timetables.
-fn prepare_turned(alloc: Global, road: &Road, query: &Query) -> Option<Layout>
-    requires posed { IsPosed road.now query.now }
-    requires turned { road.now.times.direction ≡ Direction.Turned }
-    ensures { IfSome result (IsLaidOut road.now) }
+/// A layout, prepared for travel times in a direction, if it can be made: turned round, the least ones are those of the timetables.
+fn prepared_in(alloc: Global, layout: Layout, times: &RoadTimes) -> Layout
+    requires { CanPrepareLaid layout times.now }
+    ensures { IsPreparedIn layout times.now result }
 {
-    match Layout::prepare(alloc, &road.network, &Turned::of(&road.times.tables)) {
-        Ok(layout) => Some(layout),
-        Err(_) => None,
+    match times.direction {
+        Direction::Forward => layout.prepared_if_worth(alloc, times),
+        Direction::Turned => layout.prepared_if_worth(alloc, &Turned::of(&times.tables)),
     }
 }
 
-/// A prepared layout of the road, if it can be made.
-fn prepare(alloc: Global, road: &Road, query: &Query) -> Option<Layout>
-    requires { IsPosed road.now query.now }
-    ensures { IfSome result (IsLaidOut road.now) }
+/// The road of a layout, prepared if it can be made; the network in the numbers of the files is dropped first, so that memory is
+/// taken for one network.
+fn renumbered_road(alloc: Global, road: Road, layout: Layout) -> RenumberedRoad
+    requires laid_out { LaysOut road.network layout }
+    requires none { layout.prepared ≡ None }
+    requires classes { top_class road.network.arcs ≤ length road.times.tables.list.items }
+    ensures { IsRenumberedOf road result }
 {
-    match road.times.direction {
-        Direction::Forward => match Layout::prepare(alloc, &road.network, &road.times) {
-            Ok(layout) => Some(layout),
-            Err(_) => None,
-        },
-        Direction::Turned => prepare_turned(alloc, road, query),
+    road.network.keeps_limits();
+    let Road { network, times } = road;
+    drop(network);
+    let layout = prepared_in(alloc, layout, &times);
+    RenumberedRoad { layout, times }
+}
+
+/// A road renumbered in an order of elimination, if it can be made, and prepared, if that can be.
+fn renumbered(alloc: Global, road: Road, query: &Query) -> PairRoad
+    requires { IsPosed road query.now }
+    ensures { HoldsRoad road result }
+{
+    match Layout::by_elimination(alloc, &road.network) {
+        Ok(layout) => PairRoad::Renumbered(renumbered_road(alloc, road, layout)),
+        Err(_) => PairRoad::AsRead(road),
     }
 }
 
-/// A prepared layout of the road for searches of pairs, if it is asked for, or if it pays and isn't excluded, and if it can be
-/// made. Workers and statistics do without. The watch learns of it first.
-pub(crate) fn prepared_for<H: Threads, V: Watch>(
+/// Whether a preparation is asked for, or pays and isn't excluded. Workers and statistics do without.
+fn is_wanted<H: Threads>(
     alloc: Global,
     rt: &H,
     road: &Road,
     queries: &[Query],
     options: &RunOptions,
-    watch: &mut V,
-) -> Option<Layout>
+) -> bool
     requires can { CanPrepare road.now queries.now options.now }
-    ensures { IfSome result (IsLaidOut road.now) }
+    ensures { result ≡ true → CanRenumber queries.now options.now }
 {
     if asks_for_workers(options) || queries.is_empty() {
-        return None;
+        return false;
     }
-    let is_wanted = match options.prepare {
+    match options.prepare {
         Some(wanted) => wanted,
         None => is_worth(alloc, rt, road, queries, options),
-    };
-    if is_wanted {
-        watch.prepares(road.network.nodes());
-        prepare(alloc, road, &queries[0])
-    } else {
-        None
     }
+}
+
+/// A road for searches of pairs: prepared, if that is asked for, or if it pays and isn't excluded, and if it can be made. The watch learns
+/// of it first.
+pub(crate) fn road_for_pairs<H: Threads, V: Watch>(
+    alloc: Global,
+    rt: &H,
+    road: Road,
+    queries: &[Query],
+    options: &RunOptions,
+    watch: &mut V,
+) -> PairRoad
+    requires can { CanPrepare road queries.now options.now }
+    ensures road { HoldsRoad road result }
+    ensures run { CanRunOn queries.now options.now result }
+{
+    if !is_wanted(alloc, rt, &road, queries, options) {
+        return PairRoad::AsRead(road);
+    }
+    watch.prepares(road.network.nodes());
+    renumbered(alloc, road, &queries[0])
 }
 
 /// Whether each of these threads has enough problems for a layout to pay.

@@ -8,16 +8,19 @@ ghost use Rattle.ea_batch.specs.Reportable.{IsReportable};
 ghost use Rattle.ea_batch.specs.Sending.{SendsReport};
 ghost use Rattle.ea_load.specs.Posed.{IsPosed};
 ghost use Rattle.ea_options.specs.Limits.{counted_workers};
-ghost use Rattle.earliest.specs.Choices.{CanSetUp};
+ghost use Rattle.ea_batch.specs.Solved.{IsLaidOut};
+ghost use Rattle.earliest.specs.Choices.{CanRenumber, CanSetUp};
+ghost use Rattle.earliest.specs.RunRoads.{IsReadyFor, road_in, road_of_run};
 ghost use Rattle.earliest.specs.Running.{AddsFound, AddsReport, AddsTotals, HasReportedNothing, IsFoundByWorkers, IsRunning, MayReport, MayReportAll, ReportsAll, WritesAll, WritesTotals};
 
 use crate::ahead::Ahead;
+use crate::run_road::{RenumberedRoad, RunRoad};
 use crate::solver_choice::{
     Found, counted_at_once, find, goes_ahead, is_alone, threads_at_once, workers_of,
 };
 use crate::totals::{add_totals, no_totals};
 use ea_base::Watch;
-use ea_batch::{Aids, Progress, Watched, few_chosen, report_ahead};
+use ea_batch::{Aids, Progress, SearchRoad, Watched, few_chosen, report_ahead};
 use ea_bytes::ByteOut;
 use ea_load::{AnswerFault, Road};
 use ea_options::RunOptions;
@@ -68,8 +71,9 @@ impl Reports<'_> {
         ensures adds { OnOk result (AddsTotals self.old.totals found.now.totals self.new.totals) }
         ensures kept { KeepsArrays self.old.progress self.new.progress }
     {
+        let searched = SearchRoad::of(road);
         self.progress
-            .write(alloc, road, query, &found.answer, shown, out)?;
+            .write(alloc, &searched, query, &found.answer, shown, out)?;
         add_totals(&mut self.totals, &found.totals);
         Ok(())
     }
@@ -98,7 +102,10 @@ impl Reports<'_> {
         let are_few = few_chosen(road.network.nodes(), shown).is_some();
         let workers = workers_of(rt, road, query, options, are_few);
         if is_alone(options, workers) {
-            return self.progress.report_alone(alloc, road, query, shown, out);
+            let searched = SearchRoad::of(road);
+            return self
+                .progress
+                .report_alone(alloc, &searched, query, shown, out);
         }
         match self.take_found(alloc, rt, road, query, options, workers) {
             Ok(found) => self.write_found(alloc, road, query, &found, shown, out),
@@ -170,7 +177,7 @@ fn report_each<'a, H: Threads + Sync, W: ByteOut, V: Watch>(
 
 /// Writes the reports of problems in their order: by several threads at once if the options or the number of
 /// processors say so.
-fn report_problems<'a, H: Threads + Sync, W: ByteOut, V: Watch>(
+fn report_read<'a, H: Threads + Sync, W: ByteOut, V: Watch>(
     alloc: Global,
     rt: &H,
     road: &Road,
@@ -189,13 +196,71 @@ fn report_problems<'a, H: Threads + Sync, W: ByteOut, V: Watch>(
     if !goes_ahead(options, threads, queries.len()) {
         return report_each(alloc, rt, road, queries, options, watched, out);
     }
-    match report_ahead(alloc, rt, road, queries, watched, threads, out) {
+    let searched = SearchRoad::of(road);
+    match report_ahead(alloc, rt, &searched, queries, watched, threads, out) {
         Ok(progress) => Ok(Reports {
             totals: no_totals(),
             progress,
             found: None,
         }),
         Err(fault) => Err(fault),
+    }
+}
+
+/// Writes the reports of problems on a renumbered road in their order: by several threads at once, if there are several problems.
+fn report_renumbered<'a, H: Threads + Sync, W: ByteOut, V: Watch>(
+    alloc: Global,
+    rt: &H,
+    road: &RenumberedRoad,
+    queries: &[Query],
+    options: &RunOptions,
+    watched: Watched<'a, V>,
+    out: &mut W,
+) -> Result<Reports<'a>, AnswerFault>
+    requires run { MayReportAll (road_in road.now) queries.now options.now (shape_of watched.shown) watched.aids }
+    requires laid_out { IsLaidOut (road_in road.now) road.now.layout }
+    requires can { CanRenumber queries.now options.now }
+    ensures { ReportsAll options.now (shape_of watched.entry.shown) (road_in road.now) queries.now
+        (W.seen out.old) (W.seen out.new) result }
+{
+    let Watched { shown, aids, watch } = watched;
+    let watched = Watched { shown, aids, watch };
+    let threads = if queries.len() > 1 {
+        threads_at_once(rt, options)
+    } else {
+        1
+    };
+    let searched = SearchRoad::renumbered(&road.layout, &road.times);
+    match report_ahead(alloc, rt, &searched, queries, watched, threads, out) {
+        Ok(progress) => Ok(Reports {
+            totals: no_totals(),
+            progress,
+            found: None,
+        }),
+        Err(fault) => Err(fault),
+    }
+}
+
+/// Writes the reports of problems in their order.
+fn report_problems<'a, H: Threads + Sync, W: ByteOut, V: Watch>(
+    alloc: Global,
+    rt: &H,
+    road: RunRoad<'_>,
+    queries: &[Query],
+    options: &RunOptions,
+    watched: Watched<'a, V>,
+    out: &mut W,
+) -> Result<Reports<'a>, AnswerFault>
+    requires run { MayReportAll (road_of_run road) queries.now options.now (shape_of watched.shown) watched.aids }
+    requires sound { IsReadyFor queries.now options.now road }
+    ensures { ReportsAll options.now (shape_of watched.entry.shown) (road_of_run road.entry) queries.now
+        (W.seen out.old) (W.seen out.new) result }
+{
+    match road {
+        RunRoad::AsRead(road) => report_read(alloc, rt, road, queries, options, watched, out),
+        RunRoad::Renumbered(road) => {
+            report_renumbered(alloc, rt, road, queries, options, watched, out)
+        }
     }
 }
 
@@ -220,14 +285,15 @@ fn write_totals<W: ByteOut>(reports: &Reports, stats: bool, out: &mut W) -> Resu
 pub(crate) fn report_all<H: Threads + Sync, W: ByteOut, V: Watch>(
     alloc: Global,
     rt: &H,
-    road: &Road,
+    road: RunRoad<'_>,
     queries: &[Query],
     options: &RunOptions,
     watched: Watched<'_, V>,
     out: &mut W,
 ) -> Result<Totals, AnswerFault>
-    requires run { MayReportAll road.now queries.now options.now (shape_of watched.shown) watched.aids }
-    ensures { WritesAll options.now (shape_of watched.entry.shown) road.now queries.now
+    requires run { MayReportAll (road_of_run road) queries.now options.now (shape_of watched.shown) watched.aids }
+    requires sound { IsReadyFor queries.now options.now road }
+    ensures { WritesAll options.now (shape_of watched.entry.shown) (road_of_run road.entry) queries.now
         (W.seen out.old) (W.seen out.new) result }
 {
     let Watched { shown, aids, watch } = watched;

@@ -5,6 +5,7 @@ ghost use Rattle.ea_layout.specs.Orders.{LaysOut};
 ghost use Rattle.ea_road.specs.Queries.{IsProblem};
 
 use ea_hierarchy::Unprepared;
+use ea_layout::laws::a_layout_is_of_one_network;
 use ea_layout::{LaidSearch, Layout};
 use ea_paths::{Answer, Search};
 use ea_road::{Network, Query, TravelTimes};
@@ -102,7 +103,8 @@ fn compare_walks<T: TravelTimes>(
     requires walks { laid.walks ≡ true }
     ensures { IfOk result (λ found. (found.nodes ≡ laid.nodes) × (found.walks ≡ true)) }
 {
-    let found = laid.find_walks(alloc, network, layout, times, query)?;
+    a_layout_is_of_one_network(network, layout);
+    let found = laid.find_walks(alloc, layout, times, query)?;
     compare_with_plain(alloc, network, times, query, found.answer(), count)?;
     Ok(found)
 }
@@ -121,7 +123,8 @@ fn compare_without<T: TravelTimes>(
         query.now laid }
     ensures { IfOk result (λ found. (found.nodes ≡ laid.nodes) × (found.walks ≡ laid.walks)) }
 {
-    let found = laid.find_arrivals(alloc, network, layout, times, query)?;
+    a_layout_is_of_one_network(network, layout);
+    let found = laid.find_arrivals(alloc, layout, times, query)?;
     compare_with_plain(alloc, network, times, query, found.answer(), count)?;
     Ok(found)
 }

@@ -1,5 +1,5 @@
 use Rattle.std.proofs.Common.{rules, ℕ, List, ◌≡◌, ◌≤◌, ◌<◌, length, sym, ◌∙◌, subst, refl, ap, arith, inl, inr}
-use Rattle.std.specs.Prelude.{All, IsTrue}
+use Rattle.std.specs.Prelude.{All, IsTrue, None}
 use Rattle.std.proofs.lemmas.Result.{err_from_is_err_and}
 use Rattle.ea_input.specs.Pairs.{DenotesPairs}
 use Rattle.ea_road.specs.Roads.{Roads}
@@ -7,13 +7,17 @@ use Rattle.ea_load.specs.Asked.{AreSound, files_of, in_extras}
 use Rattle.ea_load.specs.Extra.{extras_in}
 use Rattle.ea_load.specs.Files.{reading}
 use Rattle.ea_load.specs.Posed.{AreProblems}
+use Rattle.ea_batch.specs.declared.searching.Aids.{Aids}
+use Rattle.ea_load.specs.declared.road.Road.{Road}
 use Rattle.ea_load.specs.Starts.{AreWithin, Plan, pair_problems}
 use Rattle.ea_load.proofs.Denoting.{pairs_are_nodes}
 use Rattle.ea_load.proofs.Outcomes.{all_read, answered, failed, files_failed, first_there, given_is_sound, road_there}
 use Rattle.ea_load.proofs.Posing.{pairs_are_posed, few_pairs, few_nodes}
 use Rattle.ea_report.specs.Asked.{Shape, shape_of}
 use Rattle.earliest.specs.Fronts.{shape_by}
+use Rattle.earliest.specs.Running.{MayReportAll, WritesAll}
 use Rattle.earliest.specs.Runs.{pair_asks, plan_by}
+use Rattle.earliest.proofs.RunRoads.{lent_ready, lent_road}
 use Rattle.earliest.proofs.Extras.{shown_for, extra_fault_for, extras_for, optional_files, schedule_has}
 use Rattle.earliest.proofs.Sending.{cuts_short}
 use Rattle.earliest.proofs.answers.pairs_watched.Goals as goal
@@ -63,8 +67,8 @@ pair_queries-requires-clause-within g c =
     let fits : IsTrue c.departures_fit.result = search rules in
     λ i inside. c.departures_fit.ensures.0 fits i (omega (arith, inside, c.deref.ensures.len, c.len-2.ensures))
 
-pub prepared_for-layout-requires : goal.prepared_for-layout-requires
-prepared_for-layout-requires g c =
+pub road_for_pairs-road-requires : goal.road_for_pairs-road-requires
+road_for_pairs-road-requires g c =
     let o = c.args.options.now in
     let given = c.in_ok-files.ensures.given in
     let found = c.in_ok-files.files in
@@ -84,8 +88,15 @@ prepared_for-layout-requires g c =
       };
     }
 
+pub report_all-answered-requires-clause-sound : goal.report_all-answered-requires-clause-sound
+report_all-answered-requires-clause-sound g c κs lent =
+    let made = c.road_for_pairs-road in
+    rw (c.deref-3.ensures.value, ← c.deref-2.ensures.value) (lent_ready c.deref-2.result.now c.args.options.now c.in_ok-files.files.road made.result c.as_run.result made.ensures.road made.ensures.run c.as_run.ensures)
+
 pub report_all-answered-requires-clause-run : goal.report_all-answered-requires-clause-run
 report_all-answered-requires-clause-run g c κs lent =
+    let made = c.road_for_pairs-road in
+    let same = lent_road c.in_ok-files.files.road made.result c.as_run.result made.ensures.road c.as_run.ensures in
     let o = c.args.options.now in
     let given = c.in_ok-files.ensures.given in
     let found = c.in_ok-files.files in
@@ -101,7 +112,8 @@ report_all-answered-requires-clause-run g c κs lent =
     let shows = c.shown_by-shown.ensures in
     let shape = shape_of c.shown_by-shown.result in
     let chosen = ap (λ (s : Shape). s.chosen) c.shown_by-shown.ensures in
-    record {
+    let alone : Aids = record { layout = None } in
+    subst (λ (r : Road). MayReportAll r c.deref-3.result.now o shape alone) (sym same) (record {
       reportable = record {
         problems = subst (AreProblems found.road) (sym queries) (pairs_are_posed given.0 found.road o.direction given.2 whole (plan_by o extras.times) found.pairs.items nodes.0 within);
         few = subst (λ qs. length qs ≤ 1000000) (sym queries) (few_pairs given.0 found.road o.direction given.2 whole (plan_by o extras.times) found.pairs.items nodes.1);
@@ -110,8 +122,8 @@ report_all-answered-requires-clause-run g c κs lent =
       };
       options_are = c.requires;
       asked = shows ∙ ap (λ (shape : Shape). shape_by c.args.options.now shape.chosen) (sym shows);
-      aids = search rules;
-    }
+      aids = record { layout = tt };
+    })
 
 pub returns : goal.returns
 returns g c =
@@ -137,9 +149,12 @@ returns g c =
     let first = g.W.Device.seen c.args.out.now in
     let now = g.W.Device.seen c.report_all-answered.new.out in
     let chosen = ap (λ (s : Shape). s.chosen) c.shown_by-shown.ensures in
+    let made = c.road_for_pairs-road in
+    let same = lent_road found.road made.result c.as_run.result made.ensures.road c.as_run.ensures in
+    let written = subst (λ (r : Road). WritesAll o (shape_of c.shown_by-shown.result) r c.deref-3.result.now first now c.report_all-answered.result) same c.report_all-answered.ensures in
     record {
-      answered = answered (pair_asks o) files given.0 found.pairs.items extras sound within found.road given.2 _ chosen c.deref-3.result.now queries first now c.report_all-answered.result c.report_all-answered.ensures.ok;
-      failed = failed (pair_asks o) files given.0 found.pairs.items extras sound within found.road given.2 _ chosen c.deref-3.result.now queries (cuts_short o) first now c.report_all-answered.result c.report_all-answered.ensures.err;
+      answered = answered (pair_asks o) files given.0 found.pairs.items extras sound within found.road given.2 _ chosen c.deref-3.result.now queries first now c.report_all-answered.result written.ok;
+      failed = failed (pair_asks o) files given.0 found.pairs.items extras sound within found.road given.2 _ chosen c.deref-3.result.now queries (cuts_short o) first now c.report_all-answered.result written.err;
     }
 
 pub returns-then-not-departures_fit : goal.returns-then-not-departures_fit

@@ -1,5 +1,6 @@
 use Rattle.ea_load.specs.Posed.{times_on}
 use Rattle.ea_report.specs.Asked.{chosen_by}
+use Rattle.earliest.specs.RunRoads.{road_of_run}
 use Rattle.earliest.proofs.Sending.{all_written, sent_in, totals_cut}
 use Rattle.earliest.proofs.reports.report_all.Goals as goal
 
@@ -7,7 +8,7 @@ pub returns : goal.returns
 returns g c =
     let first = g.W.Device.seen c.args.out.now in
     let now = g.W.Device.seen c.write_totals.new.out in
-    let road = c.args.road.now in
+    let road = (road_of_run c.args.road) in
     let problems = c.args.queries.now in
     let sent = sent_in _ _ c.requires.run.asked road.network (times_on road) problems first _ _ c.in_ok-reports.ensures.sent in
     record {
@@ -19,7 +20,7 @@ pub returns-in-Err : goal.returns-in-Err
 returns-in-Err g c =
     let now = g.W.Device.seen c.write_totals.new.out in
     let first = g.W.Device.seen c.args.out.now in
-    let road = c.args.road.now in
+    let road = (road_of_run c.args.road) in
     let problems = c.args.queries.now in
     let sent = sent_in _ _ c.requires.run.asked road.network (times_on road) problems first _ _ c.in_ok-reports.ensures.sent in
     let cut = c.in-Err.ensures.err in

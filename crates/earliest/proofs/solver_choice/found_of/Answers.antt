@@ -1,4 +1,4 @@
-use Rattle.std.proofs.Common.{◌∙◌, List, ap, refl}
+use Rattle.std.proofs.Common.{List, ap}
 use Rattle.ea_engine.specs.declared.worker.counters.Counters.{Counters}
 use Rattle.earliest.specs.Counted.{totals_by}
 use Rattle.earliest.proofs.solver_choice.found_of.Goals as goal
