@@ -66,7 +66,7 @@ the same order and bounds (`bench/prepared/hand.cpp`), which are asked for from 
 their order. A binary heap by hand stops at the target, and searches in the numbers of the file. The far pairs are searched at seven in the
 morning with traffic patterns, too, by the Python package. 10,000 far pairs are whole runs of `pairs`, less the run of one. Microseconds a pair,
 the least, middle and greatest of the rounds; preparations in milliseconds. That for other weights of the same arcs keeps the upward arcs
-(`prepare(like=road)` from Python); memory is what `pairs` takes more at its peak with a preparation.
+(`prepare(like=road)` from Python); memory is what `pairs` takes more with a preparation, at its peak and while it searches, arrays of searches included.
 """
 
 ASKED = """## Asked nodes

@@ -7,8 +7,8 @@ motorways. Pairs are by Dijkstra rank, the target being the 2^r-th node that a s
 programs are built, run in turns on the same files, and have to reach all targets at the same times; ours searches without the preparation,
 too, and a binary heap in plain Rust stops at the target. The far ones are also searched by the Python package with traffic patterns, when most roads
 are slow. It prints the least, the middle and the greatest of the rounds, in microseconds a pair; then those of a preparation and of one for
-other weights of the same arcs, in microseconds, of many far pairs by one thread and by four, and of the memory that a preparation takes, in
-bytes a node. `make bench` writes the same as tables and pictures of the page.
+other weights of the same arcs, in microseconds, of many far pairs by one thread and by four, and of the memory that a preparation takes, at
+the peak and while pairs are searched, in bytes a node. `make bench` writes the same as tables and pictures of the page.
 """
 import os
 import random
@@ -26,7 +26,7 @@ import workspace
 FIELDS = ("network", "nodes", "pairs", "program", "least", "middle", "greatest")
 RANKS, FAR, PEAK, COUNT, TURNS = (9, 10, 11, 12, 13, 14, 16, 18), "far", "far, in the morning", 300, 2
 MANY, MANY_THREADS = 10_000, (1, 4)
-PREPARED, AGAIN, MEMORY = "preparation", "for other weights", "memory, bytes a node"
+PREPARED, AGAIN, MEMORY, KEPT = "preparation", "for other weights", "memory, bytes a node", "memory while searching"
 CPP, LED, PLAIN, HEAP = "in plain C++", "earliest", "earliest, unprepared", programs.BASE
 GRID, COUNTRY = "road-like grid", "country"
 
@@ -80,15 +80,33 @@ def took(measure, words):
     return micros / 1e6, kib * 1024
 
 
+def held(words):
+    """The memory of our program, in bytes, when it has run for most of its time: the middle of what the system says then."""
+    seen, page = [], os.sysconf("SC_PAGE_SIZE")
+    with subprocess.Popen([programs.EARLIEST, *words], stdout=subprocess.DEVNULL) as run:
+        while run.poll() is None:
+            try:
+                with open(f"/proc/{run.pid}/statm", encoding="ascii") as file:
+                    seen.append(int(file.read().split()[1]) * page)
+            except (OSError, IndexError):
+                break
+            time.sleep(0.005)
+    # At the end memory is given back.
+    late = seen[len(seen) // 2:len(seen) * 9 // 10]
+    return statistics.median(late) if late else 0
+
+
 def by_threads(measure, nodes, graph, scratch):
-    """The microseconds a pair of many far pairs by one thread and by several, and the bytes a node that a preparation takes more at the peak."""
+    """The microseconds a pair of many far pairs by one thread and by several, and the bytes a node that a preparation takes more, at the peak and
+    while pairs are searched."""
     many, few, rows = far_pairs(nodes, MANY, scratch), far_pairs(nodes, 1, scratch), {}
     for count in MANY_THREADS:
         words = ["--prepare", "yes", "--at-once", str(count)]
         pairs = [(took(measure, ["pairs", graph, many, *words])[0] - took(measure, ["pairs", graph, few, *words])[0]) * 1e6 / MANY for _ in range(3)]
         rows[f"{MANY:,} far, threads: {count}"] = pairs
     peaks = [[took(measure, ["pairs", graph, few, "--prepare", it, "--at-once", "1"])[1] for it in ("yes", "no")] for _ in range(3)]
-    return {**rows, MEMORY: [(led - plain) / nodes for led, plain in peaks]}
+    kept = [[held(["pairs", graph, name, "--prepare", it, "--at-once", "1"]) for it, name in (("yes", many), ("no", far_pairs(nodes, COUNT, scratch)))] for _ in range(3)]
+    return {**rows, MEMORY: [(led - plain) / nodes for led, plain in peaks], KEPT: [(led - plain) / nodes for led, plain in kept]}
 
 
 def measured(cpp, ours, hand, name_of, graph, scratch):

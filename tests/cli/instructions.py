@@ -37,7 +37,8 @@ GROWING = (
     ("check {}.gr one.ss {}.report", 1746),
     ("check {}.gr one.ss {}.walks", 11455),
     ("rank {}.gr one.ss", 3025),
-    ("pairs {}.gr one.p2p --prepare yes --at-once 1", 47782),
+    # Scaled from two unproved programs, of which the newer takes 0.83 of the other's, which took 47782 as it was proved.
+    ("pairs {}.gr one.p2p --prepare yes --at-once 1", 40000),
 )
 
 # The same of a grid that is laid out beside one that isn't.

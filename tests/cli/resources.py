@@ -416,12 +416,26 @@ def preparations(program, folder):
     for count, at_once, is_prepared in ((40, 1, False), (400, 1, True), (400, 8, False)):
         words = f"pairs prepared.gr {count}.p2p --at-once {at_once}"
         chosen, without = (peak(program, f"{words}{option}", folder) for option in ("", " --prepare no"))
-        yield f"resources: {words}: prepared", (chosen > 1.5 * without) == is_prepared or (chosen, without), True
+        yield f"resources: {words}: prepared", (chosen > 1.3 * without) == is_prepared or (chosen, without), True
         yield f"resources: {words}: no more than three times the memory of a search without", chosen <= 3 * without or (chosen, without), True
+
+
+def memory_of_preparations(program, folder):
+    """A preparation of a grid of 250,000 nodes: the network is renumbered and the other copy dropped, so it takes some 290 bytes a node more than a
+    search without, most of them upward arcs. With the other copy it would take 140 more."""
+    side = 500
+    nodes = side * side
+    pairs = [(at, at + step) for at in range(nodes) for step in ([1] if at % side < side - 1 else []) + ([side] if at < side * (side - 1) else [])]
+    arcs = (f"a {tail + 1} {head + 1} {1 + at % 97}\n" for at, pair in enumerate(pairs) for tail, head in (pair, pair[::-1]))
+    write(folder, "kept.gr", [f"p sp {nodes} {2 * len(pairs)}\n", *arcs])
+    write(folder, "far.p2p", ["p aux sp p2p 1\n", f"q 1 {nodes}\n"])
+    prepared, without = (min(peak(program, f"pairs kept.gr far.p2p --prepare {word} --at-once 1", folder) for _ in range(2)) for word in ("yes", "no"))
+    more = 1024 * (prepared - without) / nodes
+    yield "resources: bytes a node that a preparation takes", more <= 350 or more, True
 
 
 def results(program):
     """Each measure with whether it holds, or its figures, and True."""
     with tempfile.TemporaryDirectory(prefix="resources-") as folder:
-        for part in (network, directions, slow_reader, after_a_fault, made_once, long_walks, shared_walks, alone, near_problems, long_lines, many_steps, hard_shapes, long_waits, left_to_one, layouts, used_layouts, preparations):
+        for part in (network, directions, slow_reader, after_a_fault, made_once, long_walks, shared_walks, alone, near_problems, long_lines, many_steps, hard_shapes, long_waits, left_to_one, layouts, used_layouts, preparations, memory_of_preparations):
             yield from part(program, folder)
