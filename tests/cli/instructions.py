@@ -15,8 +15,9 @@ COUNTED = (
     ("pairs path.gr {}.p2p --prepare no --at-once 2", 271),
     ("pairs path.gr {}.p2p --prepare yes --at-once 1", 219),
     ("pairs path.gr {}.p2p --prepare no --at-once 1 --arrive 9999", 301),
-    ("run path.gr {}.ss --nodes last.ss --at-once 1", 135),
-    ("run path.gr {}.ss --nodes last.ss --at-once 2", 136),
+    # A search for some nodes goes by windows of time, and on a path there is one node in each.
+    ("run path.gr {}.ss --nodes last.ss --at-once 1", 208),
+    ("run path.gr {}.ss --nodes last.ss --at-once 2", 209),
     ("run path.gr {}.ss --at-once 1", 423),
     ("run path.gr {}.ss --at-once 2", 431),
     ("run path.gr {}.ss --stats --at-once 1", 2282),
@@ -37,8 +38,7 @@ GROWING = (
     ("check {}.gr one.ss {}.report", 1746),
     ("check {}.gr one.ss {}.walks", 11455),
     ("rank {}.gr one.ss", 3025),
-    # Scaled from two unproved programs, of which the newer takes 0.83 of the other's, which took 47782 as it was proved.
-    ("pairs {}.gr one.p2p --prepare yes --at-once 1", 40000),
+    ("pairs {}.gr one.p2p --prepare yes --at-once 1", 49388),
 )
 
 # The same of a grid that is laid out beside one that isn't.
