@@ -93,7 +93,7 @@ pub const FIRST_NEAR: u32 = 128;
 const LEAST_NEAR: u32 = 1_100;
 
 /// How many upward arcs on a way up there are for each node that is near, if it has large ones.
-const ARCS_A_NODE: u64 = 64;
+const ARCS_A_NODE: u64 = 40;
 
 /// How many nodes a search without bounds may scan in less than the time of a first bound.
 fn near_by(upward: &Upward) -> u32 {

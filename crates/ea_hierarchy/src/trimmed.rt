@@ -11,8 +11,8 @@ use std::alloc::{AllocError, Global};
 /// Ranks with fewer upward arcs have no row.
 const LONG: usize = 128;
 
-/// Rows are made for at most this many arcs, and for half as many more as there are nodes. About a third of the arcs are left, of eight bytes
-/// for each direction, so all rows take less than three bytes a node.
+/// Rows are made for at most this many arcs, and for half as many more as there are nodes. Less than half of the arcs are left, of eight
+/// bytes for each direction, so all rows take less than four bytes a node.
 const MOST_ARCS: usize = 65_536;
 
 /// An upward arc that is left: its head, and its number.

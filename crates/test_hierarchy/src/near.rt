@@ -119,7 +119,7 @@ fn more_nodes_are_near_if_ways_up_are_long(rt: HostRuntime) -> Result<(), Fail> 
     let network = clique(alloc, 1_000).map_err(|_| "memory")?;
     let network = network.ok_or("a clique")?;
     let near = near_in(alloc, &network, 2, 10).map_err(|_| "prepared")?;
-    assert!(rt; near > Some(2_400) && near < Some(2_800));
+    assert!(rt; near > Some(4_000) && near < Some(4_800));
     Ok(())
 }
 
