@@ -107,7 +107,7 @@ static inline uint32_t earliest_road_of_arcs(uint32_t nodes, const uint32_t *tai
 uint32_t earliest_road_nodes(earliest_road *road);
 uint32_t earliest_road_arcs(earliest_road *road);
 /* Prepares a road, so that searches on it for one target (earliest_search_pair) reach few nodes: far pairs take a fraction of the time, and
- * arrivals and walks are the same. It takes seconds and some 200 MB for 10^6 nodes, once for all searches. `prepared`, another handle,
+ * arrivals and walks are the same. It takes seconds and some 160 MB for 10^6 nodes, once for all searches. `prepared`, another handle,
  * holds the same road with its preparation then, for every call that takes a road; it has a share of the road, which may be freed before
  * it, and what it held before is freed. Any number of searches, each on another thread, share the preparation. They begin with
  * earliest_search_new on `prepared`; those made on `road` don't use it. Turned round (earliest_road_turned), `prepared` is prepared for

@@ -140,7 +140,7 @@ class Road:
     def prepare(self, order: Any = None, like: Optional["Road"] = None) -> "Road":
         """Prepares this road, in place, for searches of pairs: far pairs take a fraction of the time, with the same arrivals. Returns the road.
 
-        It takes seconds and some 200 MB for 10^6 nodes, other threads wait for the road meanwhile, and it pays from some hundred far pairs
+        It takes seconds and some 160 MB for 10^6 nodes, other threads wait for the road meanwhile, and it pays from some hundred far pairs
         on. `pairs`, `profile`, `latest` and the `pair` of a `searcher` made afterwards use it; searches to all nodes don't. Roads that
         `named` and `numbered` give share it, and copies, which are the road itself. A pickle leaves it out: call `prepare` in the other process.
         A second call does nothing. A road whose searches wouldn't gain is a Failure (26 NotWorth) and stays as it was, and want of memory a
